@@ -2,14 +2,9 @@
 use Rattle.std.proofs.Common.{◌≡◌, ℕ, zero, suc, Bool, true, false, cond, ◌==◌, drop, option_map, List, [], ◌∷◌, ◌++◌, Option, Some, None, Ok, inl, inr, sym, ◌∙◌, subst, ap, refl}
 use Rattle.std.specs.Prelude.{is_some, slice_get}
 use Rattle.std.specs.List.{flat_map}
-use Rattle.dom_base.specs.declared.names.As.{As}
-use Rattle.dom_base.specs.declared.border.BorderRow.{BorderRow}
-use Rattle.dom_base.specs.declared.names.Peer.{Peer}
-use Rattle.dom_base.specs.declared.names.Peer.TheVariants.{Outside}
+use Rattle.plant_network.specs.plant_model.Types.{As, BorderRow, Peer, Outside, Sent, NetworkParts}
 use Rattle.pcep_framing.specs.Frames.{joined}
-use Rattle.plant_queues.specs.declared.sent.Sent.{Sent}
 use Rattle.plant_text.specs.Sents.{sent_line}
-use Rattle.plant_text.specs.declared.settings.NetworkParts.{NetworkParts}
 use Rattle.plant_text.specs.Settings.{is_linked, peer_row}
 use Rattle.plant_text.specs.Settings.{adjacency}
 use Rattle.plant_network.specs.plant_model.declared.event.BlindEvent.{BlindEvent}

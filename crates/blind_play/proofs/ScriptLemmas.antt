@@ -7,7 +7,7 @@ use Rattle.std.specs.declared.option.Option.{Option}
 use Rattle.std.specs.Io.KnownBytes.{Appends, Keeps}
 use Rattle.dom_edge.specs.Whole.{AppendsSome}
 use Rattle.line_text.specs.Lines.{NumberedLine, told_lines}
-use Rattle.plant_text.specs.declared.settings.NetworkParts.{NetworkParts}
+use Rattle.plant_network.specs.plant_model.Types.{NetworkParts}
 use Rattle.plant_network.specs.plant_model.Blind.{blind_opened}
 use Rattle.plant_network.specs.plant_model.RealWire.{wire}
 use Rattle.run_laws.specs.Given.{IsBlindLine}

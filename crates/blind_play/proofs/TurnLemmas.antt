@@ -1,9 +1,7 @@
 -- Events that are done and told, one behind the other.
 use Rattle.std.proofs.Common.{◌≡◌, ◌<◌, ℕ, suc, arith, Bool, true, false, cond, List, [], ◌∷◌, ◌++◌, length, Option, Some, None, Ok, Err, is_ok, inl, inr, sym, ◌∙◌, subst, ap, refl, append-nil}
 use Rattle.std.proofs.lemmas.List.{flat_map_more}
-use Rattle.dom_base.specs.declared.names.As.{As}
-use Rattle.plant_queues.specs.declared.sent.Sent.{Sent}
-use Rattle.plant_text.specs.declared.settings.NetworkParts.{NetworkParts}
+use Rattle.plant_network.specs.plant_model.Types.{As, Sent, NetworkParts}
 use Rattle.plant_network.specs.plant_model.declared.event.BlindEvent.{BlindEvent}
 use Rattle.plant_network.specs.plant_model.declared.event.BlindEvent.TheVariants as blind
 use Rattle.plant_network.specs.plant_model.declared.outcome.Refused.TheVariants as refused

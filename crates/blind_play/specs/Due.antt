@@ -1,6 +1,6 @@
 -- What is due in a network without topologies, and events that are due one after the other.
 use Rattle.std.specs.Prelude.{◌≡◌, ℕ, true, List, [], ◌∷◌, Option, Some, None}
-use Rattle.plant_text.specs.declared.settings.NetworkParts.{NetworkParts}
+use Rattle.plant_network.specs.plant_model.Types.{NetworkParts}
 use Rattle.plant_network.specs.plant_model.declared.event.BlindEvent.{BlindEvent}
 use Rattle.plant_network.specs.plant_model.declared.event.BlindEvent.TheVariants as blind
 use Rattle.plant_network.specs.plant_model.Blind.{BlindState, is_accepted}

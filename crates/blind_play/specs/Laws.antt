@@ -1,6 +1,6 @@
 -- What is told of lines that are played is what the network without topologies says.
 use Rattle.std.specs.Prelude.{◌≡◌, ℕ, Bool, List, [], ◌∷◌, ◌++◌, All}
-use Rattle.plant_text.specs.declared.settings.NetworkParts.{NetworkParts}
+use Rattle.plant_network.specs.plant_model.Types.{NetworkParts}
 use Rattle.run_laws.specs.Given.{IsBlindLine}
 use Rattle.plant_network.specs.plant_model.Blind.{AreBlindGiven, BlindSays, Heard, blind_opened, heard}
 use Rattle.plant_network.specs.plant_model.RealWire.{wire}

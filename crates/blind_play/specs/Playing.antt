@@ -1,8 +1,7 @@
 -- What a line of a script does to a network without topologies, event by event, and what is told of it.
 use Rattle.std.specs.Prelude.{◌≡◌, ℕ, cond, List, [], ◌∷◌, Option, Some, None, option_map}
-use Rattle.plant_text.specs.declared.line.LineEvent.{LineEvent}
+use Rattle.plant_network.specs.plant_model.Types.{LineEvent, NetworkParts}
 use Rattle.plant_text.specs.declared.line.LineEvent.TheVariants as line
-use Rattle.plant_text.specs.declared.settings.NetworkParts.{NetworkParts}
 use Rattle.plant_network.specs.plant_model.declared.event.BlindEvent.{BlindEvent}
 use Rattle.plant_network.specs.plant_model.declared.event.BlindEvent.TheVariants as blind
 use Rattle.plant_network.specs.plant_model.Blind.{BlindState, blind_opened, is_accepted}

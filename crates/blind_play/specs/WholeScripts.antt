@@ -4,8 +4,7 @@ use Rattle.std.specs.Io.KnownBytes.{Appends, Keeps}
 use Rattle.dom_edge.specs.Causes.{Rose}
 use Rattle.dom_edge.specs.Whole.{AppendsSome}
 use Rattle.line_text.specs.Lines.{NumberedLine, told_lines}
-use Rattle.plant_text.specs.declared.line.LineEvent.{LineEvent}
-use Rattle.plant_text.specs.declared.settings.NetworkParts.{NetworkParts}
+use Rattle.plant_network.specs.plant_model.Types.{LineEvent, NetworkParts}
 use Rattle.plant_text.specs.Lines.{blind_line_in}
 use Rattle.transcript.specs.declared.stop.Stop.{Stop}
 use Rattle.transcript.specs.declared.stop.Stop.TheVariants as stop

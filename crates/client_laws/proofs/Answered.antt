@@ -4,20 +4,13 @@ use Rattle.std.specs.Option.{option_or}
 use Rattle.std.specs.Prelude.{if◌then◌else◌}
 use Rattle.std.proofs.lemmas.Bool.{cases_Bool}
 use Rattle.std.proofs.lemmas.List.{append-nil}
-use Rattle.dom_base.specs.declared.addr.Addr.{Addr}
-use Rattle.dom_base.specs.declared.names.As.{As}
-use Rattle.dom_base.specs.declared.names.Peer.TheVariants.{Outside}
-use Rattle.pcep_objects.specs.declared.object.Object.{Object}
-use Rattle.pcep_messages.specs.declared.message.Request.{Request}
-use Rattle.pcep_messages.specs.declared.message.Wanted.{Wanted}
-use Rattle.pcep_messages.specs.declared.message.Wish.{Wish}
+use Rattle.plant_play.specs.plant_model.Types.{Addr, As, Object, Request, Wanted, Wish, NetworkParts, Outside}
 use Rattle.pcep_messages.specs.declared.message.Wish.TheVariants as wishes
 use Rattle.pcep_messages.specs.Refusals.{refusal_of}
 use Rattle.pcep_messages.specs.Requests.{wanted_of, wish_of, without_bit}
 use Rattle.pcep_messages.specs.Said.{end_points_of}
 use Rattle.pcep_messages.specs.Spelling.{IsWritten}
 use Rattle.dom_edge.specs.Stores.{Files}
-use Rattle.plant_text.specs.declared.settings.NetworkParts.{NetworkParts}
 use Rattle.plant_text.specs.Names.{parent_as, same_as}
 use Rattle.request_table.specs.Pending.{key_of}
 use Rattle.plant_play.specs.plant_model.declared.output.Output.{Output}

@@ -2,20 +2,14 @@
 use Rattle.std.proofs.Common.{◌≡◌, ℕ, List, [], ◌∷◌, ◌++◌, map, Result, Ok, append_assoc, sym, ap, subst, ◌∙◌, inl, inr, refl, arith}
 use Rattle.std.specs.Prelude.{Contains}
 use Rattle.std.proofs.lemmas.List.{append-nil}
-use Rattle.dom_base.specs.declared.names.As.{As}
-use Rattle.dom_base.specs.declared.names.Peer.TheVariants.{Outside}
+use Rattle.plant_play.specs.plant_model.Types.{As, Asked, Bad, Message, Request, NetworkParts, Outside}
 use Rattle.border_costs.proofs.Members.{contains_cases, contains_head, contains_none, contains_tail}
 use Rattle.pcep_framing.specs.Frames.{joined}
-use Rattle.pcep_messages.specs.declared.message.Asked.{Asked}
-use Rattle.pcep_messages.specs.declared.message.Bad.{Bad}
-use Rattle.pcep_messages.specs.declared.message.Message.{Message}
 use Rattle.pcep_messages.specs.declared.message.Message.TheVariants as messages
-use Rattle.pcep_messages.specs.declared.message.Request.{Request}
 use Rattle.pcep_messages.specs.Messages.{Reads, message_of}
 use Rattle.pcep_messages.specs.Spelling.{IsWritten, message_text}
 use Rattle.pcep_messages.specs.Splitting.{split_of}
 use Rattle.pcep_messages.proofs.MessageLaws as message_laws
-use Rattle.plant_text.specs.declared.settings.NetworkParts.{NetworkParts}
 use Rattle.plant_play.specs.plant_model.declared.output.Output.{Output}
 use Rattle.plant_play.specs.plant_model.Plant.{Entry, PlantDeed, Run, deeds_of}
 use Rattle.plant_play.specs.plant_model.RealWire.{check_of, wire}

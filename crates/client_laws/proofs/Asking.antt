@@ -5,14 +5,11 @@ use Rattle.std.proofs.lemmas.Bool.{eq-eqb, ltb-true}
 use Rattle.std.proofs.lemmas.List.Elements.{All-cons, All-nil, All-weaker}
 use Rattle.std.proofs.lemmas.List.Sums.{AllPass-from_list_all}
 use Rattle.std.specs.List.{list_all}
-use Rattle.dom_base.specs.declared.names.As.{As}
+use Rattle.plant_play.specs.plant_model.Types.{As, Message, LineEvent, NetworkParts}
 use Rattle.dom_edge.specs.Stores.{Files}
 use Rattle.disclosure.specs.Shown.{open_of}
 use Rattle.pcep_framing.specs.Frames.{joined}
-use Rattle.pcep_messages.specs.declared.message.Message.{Message}
-use Rattle.plant_text.specs.declared.line.LineEvent.{LineEvent}
 use Rattle.plant_text.specs.declared.line.LineEvent.TheVariants as line
-use Rattle.plant_text.specs.declared.settings.NetworkParts.{NetworkParts}
 use Rattle.plant_text.specs.Settings.{peer_row}
 use Rattle.plant_play.specs.plant_model.declared.event.Event.{Event}
 use Rattle.plant_play.specs.plant_model.declared.event.Event.TheVariants as event

@@ -1,8 +1,6 @@
 -- The client that is added to settings is one of the network that they are.
 use Rattle.std.proofs.Common.{◌≡◌, Option, Some, List, [], ◌∷◌, ◌++◌, length, is_some, refl, ap}
-use Rattle.dom_base.specs.declared.names.As.{As}
-use Rattle.plant_text.specs.declared.settings.NetworkParts.{NetworkParts}
-use Rattle.plant_text.specs.declared.settings.PeerRow.{PeerRow}
+use Rattle.plant_play.specs.plant_model.Types.{As, NetworkParts, PeerRow}
 use Rattle.plant_text.specs.Networks.{path_client, with_path}
 use Rattle.plant_text.specs.Settings.{class_from, peer_row}
 use Rattle.plant_play.specs.plant_model.Element.{is_client}

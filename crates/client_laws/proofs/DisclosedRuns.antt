@@ -1,12 +1,8 @@
 -- Each run has a disclosed trace.
 use Rattle.std.proofs.Common.{◌≡◌, ℕ, nat_eq, Bool, true, false, cond, List, [], ◌∷◌, Some, refl, sym, ap, subst, ◌∙◌, inl, inr}
 use Rattle.std.specs.Map.{lookup}
-use Rattle.dom_base.specs.declared.names.As.{As}
-use Rattle.dom_base.specs.declared.border.BorderRow.{BorderRow}
-use Rattle.request_table.specs.declared.held.Held.{Held}
-use Rattle.vspt_tree.specs.declared.branch.Branch.{Branch}
+use Rattle.plant_play.specs.plant_model.Types.{As, BorderRow, Held, Branch, NetworkParts}
 use Rattle.border_costs.specs.Tables.{IsBorderTable}
-use Rattle.plant_text.specs.declared.settings.NetworkParts.{NetworkParts}
 use Rattle.plant_text.specs.Names.{same_as, parent_as}
 use Rattle.plant_play.specs.plant_model.declared.event.BlindEvent.{BlindEvent}
 use Rattle.plant_play.specs.plant_model.declared.event.Event.{Event}

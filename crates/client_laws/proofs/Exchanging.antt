@@ -8,11 +8,9 @@ use Rattle.dom_edge.specs.Stores.{Files}
 use Rattle.border_costs.proofs.Members.{contains_head, contains_tail}
 use Rattle.disclosure.specs.Shown.{open_of}
 use Rattle.pcep_framing.specs.Frames.{joined}
-use Rattle.pcep_messages.specs.declared.message.Message.{Message}
+use Rattle.plant_play.specs.plant_model.Types.{Message, LineEvent, NetworkParts}
 use Rattle.pcep_messages.specs.Spelling.{IsWritten}
-use Rattle.plant_text.specs.declared.line.LineEvent.{LineEvent}
 use Rattle.plant_text.specs.declared.line.LineEvent.TheVariants as line
-use Rattle.plant_text.specs.declared.settings.NetworkParts.{NetworkParts}
 use Rattle.plant_play.specs.plant_model.declared.event.Event.{Event}
 use Rattle.plant_play.specs.plant_model.declared.event.Event.TheVariants as event
 use Rattle.plant_play.specs.plant_model.declared.outcome.Outcome.TheVariants.{Drained}

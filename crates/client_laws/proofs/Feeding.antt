@@ -1,12 +1,10 @@
 -- What the lines of a client feed: its opening, and then its question.
 use Rattle.std.proofs.Common.{◌≡◌, ℕ, Bool, true, false, cond, List, [], ◌∷◌, ◌++◌, map, Option, Some, is_some, sym, ap, subst, ◌∙◌, refl}
 use Rattle.std.proofs.lemmas.Bool.{eq-eqb}
-use Rattle.dom_base.specs.declared.names.As.{As}
+use Rattle.plant_play.specs.plant_model.Types.{As, LineEvent, NetworkParts}
 use Rattle.dom_edge.specs.Stores.{Files}
 use Rattle.disclosure.specs.Shown.{open_of}
-use Rattle.plant_text.specs.declared.line.LineEvent.{LineEvent}
 use Rattle.plant_text.specs.declared.line.LineEvent.TheVariants as line
-use Rattle.plant_text.specs.declared.settings.NetworkParts.{NetworkParts}
 use Rattle.plant_text.specs.Settings.{peer_row}
 use Rattle.plant_play.specs.plant_model.declared.event.Event.{Event}
 use Rattle.plant_play.specs.plant_model.declared.event.Event.TheVariants as event

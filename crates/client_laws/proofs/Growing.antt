@@ -3,7 +3,7 @@ use Rattle.std.proofs.Common.{◌≡◌, ℕ, suc, ◌-◌, Bool, true, false, c
 use Rattle.std.specs.Prelude.{slice_get}
 use Rattle.std.specs.List.{AllByRecursion}
 use Rattle.pcep_framing.specs.Frames.{joined}
-use Rattle.pcep_messages.specs.declared.message.Message.{Message}
+use Rattle.plant_play.specs.plant_model.Types.{Message}
 use Rattle.pcep_messages.specs.Messages.{Reads}
 use Rattle.pcep_messages.specs.Spelling.{IsWritten, message_text}
 use Rattle.plant_play.specs.plant_model.Blind.{is_accepted}

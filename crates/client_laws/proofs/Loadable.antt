@@ -1,6 +1,6 @@
 -- In every run the topologies that elements have may be loaded.
 use Rattle.std.proofs.Common.{List}
-use Rattle.plant_text.specs.declared.settings.NetworkParts.{NetworkParts}
+use Rattle.plant_play.specs.plant_model.Types.{NetworkParts}
 use Rattle.plant_play.specs.plant_model.Plant.{Entry, Plant, Run}
 use Rattle.plant_play.specs.plant_model.RealWire.{wire}
 use Rattle.run_laws.specs.plant_laws.Topologies.{IsDomain}

@@ -1,8 +1,7 @@
 -- A run goes on by the events of lines that are played.
 use Rattle.std.proofs.Common.{◌≡◌, ℕ, List, [], ◌∷◌, ◌++◌, refl, sym, ap, subst, ◌∙◌, inl}
 use Rattle.std.proofs.lemmas.List.Elements.{All-head, All-tail}
-use Rattle.plant_text.specs.declared.line.LineEvent.{LineEvent}
-use Rattle.plant_text.specs.declared.settings.NetworkParts.{NetworkParts}
+use Rattle.plant_play.specs.plant_model.Types.{LineEvent, NetworkParts}
 use Rattle.plant_play.specs.plant_model.Events.{Answered}
 use Rattle.plant_play.specs.plant_model.Plant.{Entry, Plant, Run}
 use Rattle.plant_play.specs.plant_model.RealWire.{wire}

@@ -2,24 +2,18 @@
 use Rattle.std.proofs.Common.{◌≡◌, ◌⊎◌, ℕ, Bool, true, false, cond, List, [], ◌∷◌, ◌++◌, map, Option, Some, None, is_some, sym, ap, subst, ◌∙◌, inl, inr, refl}
 use Rattle.std.specs.List.{AllByRecursion}
 use Rattle.std.proofs.lemmas.List.{append-nil}
-use Rattle.dom_base.specs.declared.names.As.{As}
-use Rattle.dom_base.specs.declared.names.Peer.TheVariants.{Outside}
+use Rattle.plant_play.specs.plant_model.Types.{As, Message, Input, Phase, LineEvent, NetworkParts, Outside}
 use Rattle.dom_edge.specs.Stores.{Files}
 use Rattle.disclosure.specs.Shown.{open_of}
 use Rattle.pcep_framing.specs.Frames.{Framing, joined}
 use Rattle.pcep_framing.specs.Feeding.{feed_of}
-use Rattle.pcep_messages.specs.declared.message.Message.{Message}
 use Rattle.pcep_messages.specs.declared.message.Message.TheVariants as messages
 use Rattle.pcep_messages.specs.Spelling.{IsWritten, message_text}
 use Rattle.pcep_messages.specs.Splitting.{split_of}
 use Rattle.pcep_messages.proofs.MessageLaws as message_laws
-use Rattle.pcep_session.specs.declared.session.Input.{Input}
 use Rattle.pcep_session.specs.declared.session.Input.TheVariants as input
-use Rattle.pcep_session.specs.declared.state.Phase.{Phase}
 use Rattle.pcep_session.specs.declared.state.Phase.TheVariants as phase
-use Rattle.plant_text.specs.declared.line.LineEvent.{LineEvent}
 use Rattle.plant_text.specs.declared.line.LineEvent.TheVariants as line
-use Rattle.plant_text.specs.declared.settings.NetworkParts.{NetworkParts}
 use Rattle.plant_text.specs.Settings.{peer_row}
 use Rattle.plant_play.specs.plant_model.declared.event.Event.{Event}
 use Rattle.plant_play.specs.plant_model.declared.event.Event.TheVariants as event

@@ -2,28 +2,17 @@
 -- the peer feeds. Nothing of that drops a request of the peer, as long as it cancels none and its session does not end.
 use Rattle.std.proofs.Common.{◌≡◌, ℕ, ◌+◌, ◌%◌, Bool, true, false, cond, ◌==◌, nat_eq, List, [], ◌∷◌, ◌++◌, Option, Some, None, is_some, sym, ◌∙◌, ap, subst, inl, inr, refl}
 use Rattle.std.proofs.lemmas.Bool.{eqb-true, eq-eqb}
-use Rattle.dom_base.specs.declared.names.As.{As}
-use Rattle.dom_base.specs.declared.names.Peer.{Peer}
-use Rattle.dom_base.specs.declared.names.Peer.TheVariants.{Outside, Inner}
+use Rattle.plant_play.specs.plant_model.Types.{As, Peer, Outside, Inner, Asked, Message, Input, Action, Own, State as Session, Phase, Offer, NetworkParts}
 use Rattle.te_links.specs.Rows.{Rows}
-use Rattle.pcep_messages.specs.declared.message.Asked.{Asked}
-use Rattle.pcep_messages.specs.declared.message.Message.{Message}
 use Rattle.pcep_messages.specs.declared.message.Message.TheVariants as messages
-use Rattle.pcep_session.specs.declared.session.Input.{Input}
 use Rattle.pcep_session.specs.declared.session.Input.TheVariants as input
-use Rattle.pcep_session.specs.declared.actions.Action.{Action}
 use Rattle.pcep_session.specs.declared.actions.Action.TheVariants as action
-use Rattle.pcep_session.specs.declared.actions.Own.{Own}
-use Rattle.pcep_session.specs.declared.state.State.{State as Session}
-use Rattle.pcep_session.specs.declared.state.Phase.{Phase}
 use Rattle.pcep_session.specs.declared.state.Phase.TheVariants as phase
 use Rattle.pcep_session.specs.Table.{turn_of, turn_in, new_state}
 use Rattle.pcep_codes.specs.declared.TheConstants.{VERSION}
-use Rattle.pcep_objects.specs.declared.offer.Offer.{Offer}
 use Rattle.pcep_framing.specs.Frames.{Framing}
 use Rattle.disclosure.specs.Shown.{open_of}
 use Rattle.request_table.specs.Pending.{same_peer}
-use Rattle.plant_text.specs.declared.settings.NetworkParts.{NetworkParts}
 use Rattle.plant_text.specs.Names.{same_as, parent_as}
 use Rattle.plant_text.specs.Settings.{Adjacency, adjacency, adjacencies, is_linked, is_element, peer_row, class_of}
 use Rattle.plant_play.specs.plant_model.declared.event.Event.TheVariants as event

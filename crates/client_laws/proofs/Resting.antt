@@ -4,13 +4,9 @@ use Rattle.std.specs.Prelude.{filter}
 use Rattle.std.specs.Map.{lookup}
 use Rattle.std.proofs.lemmas.Bool.{cases_Bool, eqb-true}
 use Rattle.std.proofs.lemmas.List.Elements.{All-head, All-tail}
-use Rattle.dom_base.specs.declared.names.As.{As}
+use Rattle.plant_play.specs.plant_model.Types.{As, Held, LineEvent, ElementRow, NetworkParts}
 use Rattle.dom_edge.specs.Stores.{Files}
-use Rattle.request_table.specs.declared.held.Held.{Held}
-use Rattle.plant_text.specs.declared.line.LineEvent.{LineEvent}
 use Rattle.plant_text.specs.declared.line.LineEvent.TheVariants as line
-use Rattle.plant_text.specs.declared.settings.ElementRow.{ElementRow}
-use Rattle.plant_text.specs.declared.settings.NetworkParts.{NetworkParts}
 use Rattle.plant_text.specs.Names.{insert_as, parent_as, same_as}
 use Rattle.plant_text.specs.Settings.{Adjacency, elements_of, has_adjacency, is_element, adjacencies, row_of}
 use Rattle.plant_play.specs.plant_model.declared.event.Event.{Event}

@@ -1,6 +1,6 @@
 -- Every script that is played is right.
 use Rattle.std.proofs.Common.{ℕ, List, [], ◌≤◌, arith}
-use Rattle.plant_text.specs.declared.settings.NetworkParts.{NetworkParts}
+use Rattle.plant_play.specs.plant_model.Types.{NetworkParts}
 use Rattle.plant_play.proofs.plant_model.WireLaws.{wire_is_codec}
 use Rattle.plant_play.specs.plant_model.Laws.{IsNetwork}
 use Rattle.plant_play.specs.plant_model.Plant.{Entry, Plant, Run}

@@ -8,15 +8,13 @@ use Rattle.std.proofs.lemmas.List.Concat.{flat_map-cons}
 use Rattle.std.proofs.lemmas.List.Sums.{sum_by-cons}
 use Rattle.dom_base.proofs.NumberLaws.{half_back}
 use Rattle.dom_base.proofs.Parts.{Again, all_again, front_nil}
-use Rattle.dom_base.specs.declared.names.As.{As}
+use Rattle.plant_play.specs.plant_model.Types.{As, Object, Bad}
 use Rattle.dom_base.specs.Parts.{half_at, parts_from}
 use Rattle.pcep_codes.specs.declared.TheConstants.{VERSION}
 use Rattle.pcep_codes.specs.declared.messages.TheConstants as types
-use Rattle.pcep_objects.specs.declared.object.Object.{Object}
 use Rattle.pcep_objects.specs.Spelling.{body_text, object_text}
 use Rattle.pcep_objects.specs.declared.object.Body.TheVariants as bodies
 use Rattle.pcep_objects.specs.Spelling as objects
-use Rattle.pcep_messages.specs.declared.message.Bad.{Bad}
 use Rattle.pcep_messages.specs.declared.message.Bad.TheVariants.{Malformed}
 use Rattle.pcep_messages.specs.Spelling.{IsWritten, objects_in, objects_text}
 use Rattle.pcep_messages.specs.Splitting.{begins_rp, chunks_of, frame_with, groups_of, octets_at, split_objects, split_of, up_to_rp}

@@ -4,16 +4,10 @@ use Rattle.std.specs.Prelude.{All, AllPairs, Contains}
 use Rattle.std.proofs.lemmas.List.Elements.{All-append, All-contains, All-contains_itself, All-weaker, Contains-append_cases, Contains-append_left, Contains-append_right}
 use Rattle.std.proofs.lemmas.List.Kept.{AllPairs-cons}
 use Rattle.dom_base.specs.AddrOrder.{rank}
-use Rattle.dom_base.specs.declared.addr.Addr.{Addr}
-use Rattle.dom_base.specs.declared.names.As.{As}
-use Rattle.dom_base.specs.declared.border.BorderRow.{BorderRow}
-use Rattle.dom_base.specs.declared.query.Query.{Query}
-use Rattle.te_links.specs.declared.rows.OutLink.{OutLink}
+use Rattle.plant_play.specs.plant_model.Types.{Addr, As, BorderRow, Query, OutLink, Ask, Target}
 use Rattle.te_links.specs.Rows.{Rows, IsInOrder}
 use Rattle.walk_laws.specs.Borders.{IsBorderRow}
 use Rattle.walk_laws.proofs.Segments.{one_of}
-use Rattle.border_costs.specs.declared.job.Ask.{Ask}
-use Rattle.border_costs.specs.declared.job.Target.{Target}
 use Rattle.border_costs.specs.declared.job.Target.TheVariants.{Node, Next}
 use Rattle.border_costs.specs.Tables.{IsBorderTable, IsRowAt, IsRowBefore, IsRowOver, IsRowTo}
 

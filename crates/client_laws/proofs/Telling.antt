@@ -2,7 +2,7 @@
 use Rattle.std.proofs.Common.{◌≡◌, ℕ, suc, ◌-◌, List, [], ◌∷◌, length, map, sym, ap, ◌∙◌, refl, arith}
 use Rattle.std.specs.Prelude.{slice_get}
 use Rattle.std.specs.List.{AllByRecursion}
-use Rattle.pcep_messages.specs.declared.message.Message.{Message}
+use Rattle.plant_play.specs.plant_model.Types.{Message}
 use Rattle.pcep_messages.specs.Messages.{Reads}
 use Rattle.pcep_messages.specs.Spelling.{message_text}
 use Rattle.plant_client.specs.Telling.{frame_lines, last_of, lines_of, told_text}

@@ -2,11 +2,10 @@
 use Rattle.std.proofs.Common.{◌≡◌, ◌≤◌, ◌<◌, ◌^◌, ◌+◌, [], ◌∷◌, ◌++◌, All, length, sym, subst, refl, arith}
 use Rattle.std.specs.List.{AllByRecursion}
 use Rattle.std.proofs.lemmas.List.{append-nil}
-use Rattle.dom_base.specs.declared.names.As.{As}
+use Rattle.plant_play.specs.plant_model.Types.{As, Object}
 use Rattle.pcep_codes.specs.declared.classes.TheConstants as classes
 use Rattle.pcep_subobjects.specs.Addresses.{IsAddr, bits_of}
 use Rattle.pcep_objects.specs.declared.object.Body.TheVariants as bodies
-use Rattle.pcep_objects.specs.declared.object.Object.{Object}
 use Rattle.pcep_objects.specs.Spelling as objects
 use Rattle.pcep_objects.specs.Spelling.{IsWord}
 use Rattle.pcep_messages.specs.Spelling.{IsWritten, objects_in}

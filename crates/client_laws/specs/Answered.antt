@@ -1,14 +1,10 @@
 -- The question of a client that asks once is taken by the client's element, nothing drops it, and it has an answer, or waits for an
 -- outside peer that was asked on its way.
 use Rattle.std.specs.Prelude.{◌≡◌, ◌≢◌, ◌≤◌, ℕ, List, [], ◌∷◌, Contains, Option, Some}
-use Rattle.dom_base.specs.declared.names.As.{As}
-use Rattle.dom_base.specs.declared.names.Peer.TheVariants.{Outside}
+use Rattle.plant_play.specs.plant_model.Types.{As, Request, Wanted, NetworkParts, Outside}
 use Rattle.dom_edge.specs.Stores.{Files}
-use Rattle.pcep_messages.specs.declared.message.Request.{Request}
-use Rattle.pcep_messages.specs.declared.message.Wanted.{Wanted}
 use Rattle.pcep_messages.specs.declared.message.Wish.TheVariants as wishes
 use Rattle.pcep_messages.specs.Spelling.{IsWritten}
-use Rattle.plant_text.specs.declared.settings.NetworkParts.{NetworkParts}
 use Rattle.plant_text.specs.Names.{parent_as}
 use Rattle.request_table.specs.Pending.{key_of}
 use Rattle.plant_play.specs.plant_model.declared.output.Output.{Output}

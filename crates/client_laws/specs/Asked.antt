@@ -1,11 +1,8 @@
 -- The requests that elements have from a client that asks once.
 use Rattle.std.specs.Prelude.{◌≡◌, ℕ, List, [], Option}
-use Rattle.dom_base.specs.declared.names.As.{As}
-use Rattle.dom_base.specs.declared.names.Peer.TheVariants.{Outside}
+use Rattle.plant_play.specs.plant_model.Types.{As, Request, NetworkParts, Outside}
 use Rattle.dom_edge.specs.Stores.{Files}
-use Rattle.pcep_messages.specs.declared.message.Request.{Request}
 use Rattle.pcep_messages.specs.Spelling.{IsWritten}
-use Rattle.plant_text.specs.declared.settings.NetworkParts.{NetworkParts}
 use Rattle.plant_play.specs.plant_model.Laws.{IsNetwork}
 use Rattle.plant_play.specs.plant_model.Plant.{Entry, deeds_of}
 use Rattle.plant_play.specs.plant_model.RealWire.{check_of, wire}

@@ -1,7 +1,7 @@
 -- Each run has a disclosed trace, and where a script shows rows it is what is shown.
 use Rattle.std.specs.Prelude.{◌≡◌, ℕ, true, cond, List, [], ◌∷◌}
 use Rattle.plant_text.specs.declared.line.LineEvent.TheVariants.{DiscloseOn}
-use Rattle.plant_text.specs.declared.settings.NetworkParts.{NetworkParts}
+use Rattle.plant_play.specs.plant_model.Types.{NetworkParts}
 use Rattle.plant_play.specs.plant_model.declared.event.BlindEvent.{BlindEvent}
 use Rattle.plant_play.specs.plant_model.Blind.{blind_of, is_accepted, with_event}
 use Rattle.plant_play.specs.plant_model.Plant.{Entry, Plant, Run}

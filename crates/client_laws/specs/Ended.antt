@@ -1,11 +1,8 @@
 -- What a client that asks once is told is the answer to its question: nothing is said to it behind that, and no answer is without lines.
 use Rattle.std.specs.Prelude.{◌≡◌, ◌≤◌, ℕ, false, All, List, [], ◌∷◌, ◌++◌, length, Option, Some}
 use Rattle.dom_edge.specs.Stores.{Files}
-use Rattle.pcep_messages.specs.declared.message.Answer.{Answer}
-use Rattle.pcep_messages.specs.declared.message.Message.{Message}
+use Rattle.plant_play.specs.plant_model.Types.{Answer, Message, NetworkParts, PeerRow}
 use Rattle.pcep_messages.specs.Spelling.{IsWritten}
-use Rattle.plant_text.specs.declared.settings.NetworkParts.{NetworkParts}
-use Rattle.plant_text.specs.declared.settings.PeerRow.{PeerRow}
 use Rattle.plant_play.specs.plant_model.Laws.{IsNetwork}
 use Rattle.plant_play.specs.plant_model.Plant.{Entry}
 use Rattle.plant_play.specs.plant_model.Writing.{busy, error_message, reply_message}

@@ -1,8 +1,7 @@
 -- What every script that is played is worth: to those who ask for paths, and to the owners of domains.
 use Rattle.std.specs.Prelude.{◌≡◌, ◌≤◌, ◌+◌, ℕ, List, [], ◌∷◌, length}
-use Rattle.plant_text.specs.declared.line.LineEvent.{LineEvent}
+use Rattle.plant_play.specs.plant_model.Types.{LineEvent, NetworkParts}
 use Rattle.plant_text.specs.declared.line.LineEvent.TheVariants as line
-use Rattle.plant_text.specs.declared.settings.NetworkParts.{NetworkParts}
 use Rattle.plant_play.specs.plant_model.declared.event.BlindEvent.{BlindEvent}
 use Rattle.plant_play.specs.plant_model.Blind.{BlindSays, BlindState, heard}
 use Rattle.plant_play.specs.plant_model.Laws.{IsNetwork}

@@ -1,9 +1,7 @@
 -- What a script that is played is worth: its events are those of a run of the model.
 use Rattle.std.specs.Prelude.{◌≡◌, ◌<◌, ℕ, List, [], All}
-use Rattle.dom_base.specs.declared.names.As.{As}
-use Rattle.plant_text.specs.declared.line.LineEvent.{LineEvent}
+use Rattle.plant_play.specs.plant_model.Types.{As, LineEvent, NetworkParts}
 use Rattle.plant_text.specs.declared.line.LineEvent.TheVariants as line
-use Rattle.plant_text.specs.declared.settings.NetworkParts.{NetworkParts}
 use Rattle.plant_play.specs.plant_model.declared.event.Event.TheVariants.{Load}
 use Rattle.plant_play.specs.plant_model.Events.{Answered}
 use Rattle.plant_play.specs.plant_model.Plant.{Entry, IsGiven, Plant, Run}

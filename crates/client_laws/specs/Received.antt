@@ -1,10 +1,8 @@
 -- What a client that asks one question behind the other receives for each, and what is heard of it.
 use Rattle.std.specs.Prelude.{◌≡◌, ℕ, List, [], ◌∷◌, ◌++◌, map, Contains, Option, Some}
 use Rattle.dom_edge.specs.Stores.{Files}
-use Rattle.pcep_messages.specs.declared.message.Message.{Message}
+use Rattle.plant_play.specs.plant_model.Types.{Message, Reply, NetworkParts}
 use Rattle.pcep_messages.specs.declared.message.Message.TheVariants as messages
-use Rattle.pcep_messages.specs.declared.message.Reply.{Reply}
-use Rattle.plant_text.specs.declared.settings.NetworkParts.{NetworkParts}
 use Rattle.plant_play.specs.plant_model.Laws.{IsNetwork}
 use Rattle.plant_play.specs.plant_model.Plant.{Entry, Run, deeds_of}
 use Rattle.plant_play.specs.plant_model.RealWire.{wire}

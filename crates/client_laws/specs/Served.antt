@@ -1,12 +1,8 @@
 -- What becomes of a request for a path once it is taken: it is answered at once, or is open from then on, and when the network is quiet
 -- it has had its one answer, or was dropped, or an outside peer that was asked on its way has yet to answer.
 use Rattle.std.specs.Prelude.{◌≡◌, ◌≢◌, ◌≤◌, ℕ, List, ◌∷◌, Contains, Some}
-use Rattle.dom_base.specs.declared.names.As.{As}
-use Rattle.dom_base.specs.declared.names.Peer.{Peer}
-use Rattle.pcep_messages.specs.declared.message.Request.{Request}
-use Rattle.pcep_messages.specs.declared.message.Wanted.{Wanted}
+use Rattle.plant_play.specs.plant_model.Types.{As, Peer, Request, Wanted, NetworkParts}
 use Rattle.pcep_messages.specs.declared.message.Wish.TheVariants as wishes
-use Rattle.plant_text.specs.declared.settings.NetworkParts.{NetworkParts}
 use Rattle.plant_text.specs.Names.{parent_as}
 use Rattle.request_table.specs.Pending.{key_of}
 use Rattle.plant_play.specs.plant_model.Element.{Row}

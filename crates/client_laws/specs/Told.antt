@@ -1,11 +1,8 @@
 -- What a client that asks once receives, and what it is told of it.
 use Rattle.std.specs.Prelude.{◌≡◌, ℕ, true, is_some, List, [], ◌∷◌, Contains, Option, Some}
-use Rattle.dom_base.specs.declared.names.Peer.TheVariants.{Outside}
 use Rattle.dom_edge.specs.Stores.{Files}
-use Rattle.pcep_messages.specs.declared.message.Message.{Message}
+use Rattle.plant_play.specs.plant_model.Types.{Message, Reply, NetworkParts, Outside}
 use Rattle.pcep_messages.specs.declared.message.Message.TheVariants as messages
-use Rattle.pcep_messages.specs.declared.message.Reply.{Reply}
-use Rattle.plant_text.specs.declared.settings.NetworkParts.{NetworkParts}
 use Rattle.plant_text.specs.Settings.{class_of, peer_row}
 use Rattle.plant_play.specs.plant_model.Element.{is_client}
 use Rattle.plant_play.specs.plant_model.Laws.{IsNetwork}

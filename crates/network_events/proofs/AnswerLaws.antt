@@ -3,14 +3,8 @@ use Rattle.std.proofs.Common.{◌≡◌, ◌≤◌, ℕ, ◌+◌, Bool, true, fa
 use Rattle.std.specs.Map.{lookup, remove_entry}
 use Rattle.std.proofs.lemmas.Bool.{cases_Bool}
 use Rattle.std.specs.Prelude.{slice_get}
-use Rattle.dom_base.specs.declared.names.As.{As}
-use Rattle.dom_base.specs.declared.names.Peer.{Peer}
-use Rattle.pcep_subobjects.specs.declared.hop.Hop.{Hop}
-use Rattle.request_table.specs.declared.held.Held.{Held}
+use Rattle.pce_common.specs.plant_model.Types.{As, Peer, Hop, Held, Sent, NetworkParts, ElementRow}
 use Rattle.request_table.specs.Pending.{closed_of}
-use Rattle.plant_queues.specs.declared.sent.Sent.{Sent}
-use Rattle.plant_text.specs.declared.settings.NetworkParts.{NetworkParts}
-use Rattle.plant_text.specs.declared.settings.ElementRow.{ElementRow}
 use Rattle.plant_text.specs.Names.{same_as, parent_as}
 use Rattle.plant_text.specs.Settings.{elements_of}
 use Rattle.pce_common.specs.plant_model.declared.output.Output.{Output}

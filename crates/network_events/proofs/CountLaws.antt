@@ -1,8 +1,7 @@
 -- Requests that are counted by their askers, after each change of a table.
 use Rattle.std.proofs.Common.{◌≡◌, ℕ, ◌+◌, ◌≤◌, Bool, true, false, cond, nat_eq, List, [], ◌∷◌, ◌++◌, filter, length, refl, ap, arith}
 use Rattle.std.specs.Map.{remove_entry}
-use Rattle.dom_base.specs.declared.names.Peer.{Peer}
-use Rattle.request_table.specs.declared.held.Held.{Held}
+use Rattle.pce_common.specs.plant_model.Types.{Peer, Held}
 use Rattle.request_table.specs.Lends.{with_item}
 use Rattle.pce_common.specs.Owed.{count_by_asker}
 

@@ -1,12 +1,8 @@
 -- A feed and a drain: what they are in the model, and the room that is kept.
 use Rattle.std.proofs.Common.{◌≡◌, ◌∙◌, ℕ, Option, Some, None, Result, Ok, Err, List, [], inl, inr, refl, sym, ap, subst, arith, ◌==◌, Bool, true, false, not}
-use Rattle.dom_base.specs.declared.names.As.{As}
-use Rattle.dom_base.specs.declared.names.Peer.{Peer}
-use Rattle.dom_base.specs.declared.names.Peer.TheVariants.{Outside, Inner}
-use Rattle.pcep_subobjects.specs.declared.hop.Hop.{Hop}
+use Rattle.pce_common.specs.plant_model.Types.{As, Peer, Outside, Inner, Hop, NetworkParts}
 use Rattle.network_links.specs.Ends.{fed_while_up}
 use Rattle.network_links.specs.Rooms.{Frees, Grows, queue}
-use Rattle.plant_text.specs.declared.settings.NetworkParts.{NetworkParts}
 use Rattle.pce_common.specs.plant_model.declared.outcome.Outcome.TheVariants.{Done, Drained}
 use Rattle.pce_common.specs.plant_model.declared.outcome.Refused.{Refused}
 use Rattle.pce_common.specs.plant_model.declared.outcome.Refused.TheVariants.{NoSuchPeer, NotHolder, NoMemory}

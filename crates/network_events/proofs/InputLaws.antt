@@ -1,16 +1,9 @@
 -- What an input to a session is in the model, where it passes nothing on.
 use Rattle.std.proofs.Common.{◌≡◌, ◌+◌, ◌*◌, Bool, true, false, cond, Option, Some, None, List, length, refl, ap, sym, subst, ◌∙◌}
 use Rattle.std.specs.Option.{option_map}
-use Rattle.dom_base.specs.declared.names.As.{As}
-use Rattle.dom_base.specs.declared.names.Peer.{Peer}
-use Rattle.dom_base.specs.declared.names.Peer.TheVariants.{Outside, Inner}
-use Rattle.pcep_subobjects.specs.declared.hop.Hop.{Hop}
-use Rattle.pcep_session.specs.declared.actions.Action.{Action}
-use Rattle.pcep_session.specs.declared.session.Input.{Input}
-use Rattle.pcep_session.specs.declared.state.State.{State as Session}
+use Rattle.pce_common.specs.plant_model.Types.{As, Peer, Outside, Inner, Hop, Action, Input, State as Session, NetworkParts}
 use Rattle.pcep_session.specs.Table.{turn_of}
 use Rattle.plant_queues.specs.Messages.{Spare, Covers}
-use Rattle.plant_text.specs.declared.settings.NetworkParts.{NetworkParts}
 use Rattle.plant_text.specs.Settings.{adjacency}
 use Rattle.pce_common.specs.plant_model.declared.output.Lost.{Lost}
 use Rattle.pce_common.specs.plant_model.RealWire.{wire}

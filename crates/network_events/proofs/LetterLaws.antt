@@ -4,13 +4,9 @@ use Rattle.std.specs.Prelude.{slice_get}
 use Rattle.std.specs.Option.{option_map}
 use Rattle.std.proofs.lemmas.Bool.{eqb-true}
 use Rattle.std.proofs.lemmas.Option.{slice_get_within}
-use Rattle.dom_base.specs.declared.names.As.{As}
-use Rattle.dom_base.specs.declared.names.Peer.{Peer}
-use Rattle.dom_base.specs.declared.names.Peer.TheVariants.{Outside, Inner}
-use Rattle.plant_queues.specs.declared.sent.Sent.{Sent}
+use Rattle.pce_common.specs.plant_model.Types.{As, Peer, Outside, Inner, Sent, NetworkParts}
 use Rattle.plant_queues.specs.Messages.{Spare, Covers, total}
 use Rattle.plant_queues.specs.Sents.{size_of, sent_of}
-use Rattle.plant_text.specs.declared.settings.NetworkParts.{NetworkParts}
 use Rattle.plant_text.specs.Names.{same_as}
 use Rattle.pce_common.specs.plant_model.Wire.{Bytes}
 use Rattle.pce_common.specs.plant_model.declared.output.Output.{Output}

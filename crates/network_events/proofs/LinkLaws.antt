@@ -1,16 +1,11 @@
 -- What an end of a link that begins, and a link that is cleared, are in the model.
 use Rattle.std.proofs.Common.{◌≡◌, ◌≤◌, ℕ, ◌+◌, Bool, true, false, cond, List, [], length, refl, ap, subst, ◌∙◌, arith}
-use Rattle.dom_base.specs.declared.names.As.{As}
-use Rattle.dom_base.specs.declared.names.Peer.{Peer}
-use Rattle.dom_base.specs.declared.names.Peer.TheVariants.{Outside, Inner}
-use Rattle.pcep_subobjects.specs.declared.hop.Hop.{Hop}
+use Rattle.pce_common.specs.plant_model.Types.{As, Peer, Outside, Inner, Hop, State as Session, NetworkParts}
 use Rattle.pcep_session.specs.declared.actions.Own.TheVariants as own
 use Rattle.pcep_session.specs.declared.session.Input.TheVariants as input
-use Rattle.pcep_session.specs.declared.state.State.{State as Session}
 use Rattle.pcep_session.specs.Table.{new_state, turn_of}
 use Rattle.plant_queues.specs.Messages.{Spare, total}
 use Rattle.plant_queues.specs.Sents.{size_of}
-use Rattle.plant_text.specs.declared.settings.NetworkParts.{NetworkParts}
 use Rattle.plant_text.specs.Names.{same_as}
 use Rattle.pce_common.specs.plant_model.declared.output.Lost.{Lost}
 use Rattle.pce_common.specs.plant_model.Names.{set_pair}

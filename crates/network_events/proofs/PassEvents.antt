@@ -1,12 +1,7 @@
 -- What a member that is given a message owes, and what was said before is cleared.
 use Rattle.std.proofs.Common.{◌≡◌, ◌≤◌, ℕ, zero, suc, ◌+◌, cond, Option, Some, None, List, [], ◌∷◌, length, ap, sym, subst, ◌∙◌, arith}
 use Rattle.std.specs.Prelude.{slice_get}
-use Rattle.dom_base.specs.declared.names.As.{As}
-use Rattle.dom_base.specs.declared.names.Peer.{Peer}
-use Rattle.pcep_subobjects.specs.declared.hop.Hop.{Hop}
-use Rattle.pcep_messages.specs.declared.message.Message.{Message}
-use Rattle.plant_queues.specs.declared.sent.Sent.{Sent}
-use Rattle.plant_text.specs.declared.settings.NetworkParts.{NetworkParts}
+use Rattle.pce_common.specs.plant_model.Types.{As, Peer, Hop, Message, Sent, NetworkParts}
 use Rattle.plant_text.specs.Names.{same_as}
 use Rattle.plant_text.specs.Settings.{elements_of}
 use Rattle.pce_common.specs.plant_model.declared.output.Output.{Output}

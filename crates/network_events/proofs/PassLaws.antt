@@ -1,10 +1,7 @@
 -- What a step takes away, or sets, leaves no queue less room.
 use Rattle.std.proofs.Common.{◌≡◌, ◌≤◌, ℕ, Bool, true, false, cond, List, [], ◌∷◌, length, drop, refl, ap, sym, subst, ◌∙◌, arith, inl, inr}
 use Rattle.std.proofs.lemmas.Bool.{cases_Bool}
-use Rattle.dom_base.specs.declared.names.As.{As}
-use Rattle.dom_base.specs.declared.names.Peer.{Peer}
-use Rattle.dom_base.specs.declared.names.Peer.TheVariants.{Outside, Inner}
-use Rattle.pcep_session.specs.declared.state.State.{State as Session}
+use Rattle.pce_common.specs.plant_model.Types.{As, Peer, Outside, Inner, State as Session}
 use Rattle.plant_queues.specs.Messages.{Spare, total}
 use Rattle.plant_text.specs.Names.{same_as}
 use Rattle.pce_common.specs.plant_model.Names.{set_pair}

@@ -1,9 +1,7 @@
 -- How many requests are pending at all members, where one of them loses some.
 use Rattle.std.proofs.Common.{◌≡◌, ◌≤◌, ℕ, ◌+◌, Bool, true, false, cond, nat_lt, is_some, Some, List, [], ◌∷◌, length, refl, ap, sym, subst, arith}
 use Rattle.std.proofs.lemmas.Bool.{eq-eqb}
-use Rattle.dom_base.specs.declared.names.As.{As}
-use Rattle.dom_base.specs.declared.names.Peer.{Peer}
-use Rattle.plant_text.specs.declared.settings.ElementRow.{ElementRow}
+use Rattle.pce_common.specs.plant_model.Types.{As, Peer, ElementRow}
 use Rattle.plant_text.specs.Names.{same_as, parent_as, insert_as}
 use Rattle.plant_text.specs.Settings.{row_of, elements_of}
 use Rattle.pce_common.specs.plant_model.Element.{Element, downed, lost}

@@ -1,17 +1,10 @@
 -- A tick at which a session has nothing to say or to do changes that session alone, and one at which it has some is left for later.
 use Rattle.std.proofs.Common.{◌≡◌, ℕ, Bool, true, false, cond, Option, Some, None, List, [], ◌∷◌, refl, ap, sym, subst, ◌∙◌}
 use Rattle.std.specs.Option.{option_map}
-use Rattle.dom_base.specs.declared.names.As.{As}
-use Rattle.dom_base.specs.declared.names.Peer.{Peer}
-use Rattle.dom_base.specs.declared.names.Peer.TheVariants.{Outside, Inner}
-use Rattle.dom_base.specs.declared.names.Tick.{Tick}
-use Rattle.pcep_subobjects.specs.declared.hop.Hop.{Hop}
-use Rattle.pcep_session.specs.declared.actions.Action.{Action}
+use Rattle.pce_common.specs.plant_model.Types.{As, Peer, Outside, Inner, Tick, Hop, Action, State as Session, NetworkParts}
 use Rattle.pcep_session.specs.declared.session.Input.TheVariants as input
-use Rattle.pcep_session.specs.declared.state.State.{State as Session}
 use Rattle.pcep_session.specs.Quiet.{is_nothing, is_quiet, after_quiet}
 use Rattle.pcep_session.specs.Table.{turn_of}
-use Rattle.plant_text.specs.declared.settings.NetworkParts.{NetworkParts}
 use Rattle.pce_common.specs.plant_model.declared.output.Lost.{Lost}
 use Rattle.pce_common.specs.plant_model.State.{Connection, Access}
 use Rattle.pce_common.specs.plant_model.Deeds.{on_connection, with_session}

@@ -3,18 +3,9 @@ use Rattle.std.proofs.Common.{◌≡◌, ◌⊎◌, ◌≤◌, ℕ, Bool, true, 
 use Rattle.std.specs.Prelude.{slice_get}
 use Rattle.std.proofs.lemmas.Bool.{cases_Bool, eqb-true}
 use Rattle.std.specs.Option.{option_map}
-use Rattle.dom_base.specs.declared.names.As.{As}
-use Rattle.dom_base.specs.declared.names.Peer.{Peer}
-use Rattle.dom_base.specs.declared.names.Peer.TheVariants.{Outside, Inner}
-use Rattle.pcep_subobjects.specs.declared.hop.Hop.{Hop}
-use Rattle.pcep_messages.specs.declared.message.Message.{Message}
-use Rattle.pcep_session.specs.declared.actions.Action.{Action}
+use Rattle.pce_common.specs.plant_model.Types.{As, Peer, Outside, Inner, Hop, Message, Action, Input, State as Session, Sent, NetworkParts}
 use Rattle.pcep_session.specs.declared.actions.Action.TheVariants.{Pass}
-use Rattle.pcep_session.specs.declared.session.Input.{Input}
-use Rattle.pcep_session.specs.declared.state.State.{State as Session}
 use Rattle.pcep_session.specs.Table.{SessionStep, turn_of}
-use Rattle.plant_queues.specs.declared.sent.Sent.{Sent}
-use Rattle.plant_text.specs.declared.settings.NetworkParts.{NetworkParts}
 use Rattle.plant_text.specs.Settings.{adjacency, adjacencies, has_adjacency}
 use Rattle.network_links.specs.Rooms.{Grows}
 use Rattle.pce_common.specs.plant_model.declared.outcome.Outcome.TheVariants.{Done}

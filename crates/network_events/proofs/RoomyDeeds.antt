@@ -2,13 +2,8 @@
 use Rattle.std.proofs.Common.{◌≡◌, ◌≤◌, ℕ, ◌+◌, ◌*◌, ◌%◌, Bool, true, false, not, cond, ◌==◌, Option, Some, None, List, [], ◌∷◌, ◌++◌, length, refl, ap, sym, subst, ◌∙◌, arith, inl, inr, append_assoc, append-nil}
 use Rattle.std.specs.Option.{option_map}
 use Rattle.std.proofs.lemmas.Bool.{cases_Bool, eqb-true}
-use Rattle.dom_base.specs.declared.names.As.{As}
-use Rattle.dom_base.specs.declared.names.Peer.{Peer}
-use Rattle.dom_base.specs.declared.names.Peer.TheVariants.{Outside, Inner}
-use Rattle.pcep_subobjects.specs.declared.hop.Hop.{Hop}
-use Rattle.plant_queues.specs.declared.sent.Sent.{Sent}
+use Rattle.pce_common.specs.plant_model.Types.{As, Peer, Outside, Inner, Hop, Sent, NetworkParts, Action, Own, State as Session}
 use Rattle.plant_queues.specs.Sents.{sent_of}
-use Rattle.plant_text.specs.declared.settings.NetworkParts.{NetworkParts}
 use Rattle.plant_text.specs.Names.{same_as, parent_as}
 use Rattle.plant_text.specs.Settings.{Adjacency}
 use Rattle.pce_common.specs.plant_model.declared.output.Output.{Output}
@@ -21,11 +16,8 @@ use Rattle.pce_common.specs.plant_model.State.{State, Access, Connection, said}
 use Rattle.pce_common.specs.plant_model.Events.{is_down}
 use Rattle.pce_common.specs.plant_model.Deeds as deeds
 use Rattle.pce_common.specs.plant_model.Deeds.{Going, any_fall, element_of, on_connection, with_more, with_session, with_inbox, our_offer, is_due, is_out_empty}
-use Rattle.pcep_session.specs.declared.actions.Action.{Action}
 use Rattle.pcep_session.specs.declared.actions.Action.TheVariants as action
-use Rattle.pcep_session.specs.declared.actions.Own.{Own}
 use Rattle.pcep_session.specs.declared.actions.Own.TheVariants as own
-use Rattle.pcep_session.specs.declared.state.State.{State as Session}
 use Rattle.network_links.specs.Ends.{own_bytes, said_in}
 use Rattle.network_links.specs.Flow.{Flow, out_of, queue_at}
 use Rattle.network_events.specs.Acting.{IsOwnTurn, size_in}

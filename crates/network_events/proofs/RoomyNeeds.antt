@@ -2,16 +2,10 @@
 use Rattle.std.proofs.Common.{◌≡◌, ◌≤◌, ℕ, ◌+◌, ◌*◌, Bool, true, false, not, cond, is_some, List, [], ◌∷◌, length, refl, ap, sym, ◌∙◌, arith, inl, inr}
 use Rattle.std.specs.Prelude.{nat_lt}
 use Rattle.std.proofs.lemmas.Bool.{cases_Bool, eq-eqb}
-use Rattle.dom_base.specs.declared.names.As.{As}
-use Rattle.dom_base.specs.declared.names.Peer.{Peer}
-use Rattle.dom_base.specs.declared.names.Peer.TheVariants.{Outside, Inner}
-use Rattle.pcep_session.specs.declared.session.Input.{Input}
-use Rattle.pcep_session.specs.declared.state.Phase.{Phase}
+use Rattle.pce_common.specs.plant_model.Types.{As, Peer, Outside, Inner, Input, Phase, State as Session, NetworkParts}
 use Rattle.pcep_session.specs.declared.state.Phase.TheVariants as phase
-use Rattle.pcep_session.specs.declared.state.State.{State as Session}
 use Rattle.pcep_session.specs.Table.{turn_in, turn_of, quiet}
 use Rattle.plant_queues.specs.Messages.{Covers}
-use Rattle.plant_text.specs.declared.settings.NetworkParts.{NetworkParts}
 use Rattle.plant_text.specs.Names.{same_as, same_link, parent_as}
 use Rattle.plant_text.specs.Settings.{Adjacency, adjacency, adjacencies, has_adjacency, is_element, elements_of}
 use Rattle.pce_common.specs.plant_model.Deeds.{element_of}

@@ -1,14 +1,9 @@
 -- The room that is kept stays so where an outside peer opens, shuts, feeds and drains, and where the clock goes on.
 use Rattle.std.proofs.Common.{◌≡◌, ◌≤◌, ℕ, ◌*◌, Bool, true, false, cond, ◌==◌, is_some, Option, Some, None, List, [], length, refl, ap, sym, subst, ◌∙◌, arith, inl, inr, append-nil}
 use Rattle.std.proofs.lemmas.Bool.{cases_Bool, eqb-true}
-use Rattle.dom_base.specs.declared.names.As.{As}
-use Rattle.dom_base.specs.declared.names.Tick.{Tick}
-use Rattle.dom_base.specs.declared.names.Peer.{Peer}
-use Rattle.dom_base.specs.declared.names.Peer.TheVariants.{Outside, Inner}
-use Rattle.pcep_subobjects.specs.declared.hop.Hop.{Hop}
+use Rattle.pce_common.specs.plant_model.Types.{As, Tick, Peer, Outside, Inner, Hop, NetworkParts}
 use Rattle.plant_queues.specs.Messages.{Spare, total}
 use Rattle.plant_queues.specs.Sents.{size_of}
-use Rattle.plant_text.specs.declared.settings.NetworkParts.{NetworkParts}
 use Rattle.plant_text.specs.Names.{same_as, parent_as}
 use Rattle.pce_common.specs.plant_model.declared.output.Lost.{Lost}
 use Rattle.pce_common.specs.plant_model.Names.{set_number}

@@ -1,10 +1,8 @@
 -- The words that sessions may say in an event, and room that stays where no queue has less.
 use Rattle.std.proofs.Common.{◌≡◌, ◌≤◌, ◌<◌, ℕ, ◌+◌, ◌*◌, true, List, [], ◌∷◌, length, ap, sym, ◌∙◌, arith}
-use Rattle.dom_base.specs.declared.names.As.{As}
-use Rattle.dom_base.specs.declared.names.Peer.{Peer}
+use Rattle.pce_common.specs.plant_model.Types.{As, Peer, NetworkParts}
 use Rattle.plant_queues.specs.Messages.{Spare, total}
 use Rattle.plant_queues.specs.Sents.{size_of}
-use Rattle.plant_text.specs.declared.settings.NetworkParts.{NetworkParts}
 use Rattle.plant_text.specs.Settings.{Adjacency, adjacencies, has_adjacency}
 use Rattle.network_links.specs.Flow.{Flow}
 use Rattle.pce_common.specs.Membership.{Membership}

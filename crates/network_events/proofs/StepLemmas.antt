@@ -1,8 +1,6 @@
 -- What becomes of a network by an event is a step of its model.
 use Rattle.std.proofs.Common.{◌≡◌, ◌∙◌, Bool, true, Ok, Err, List, [], refl, sym, ap, ap₂, subst, inl, inr, arith}
-use Rattle.dom_base.specs.declared.names.As.{As}
-use Rattle.pcep_subobjects.specs.declared.hop.Hop.{Hop}
-use Rattle.plant_text.specs.declared.settings.NetworkParts.{NetworkParts}
+use Rattle.pce_common.specs.plant_model.Types.{As, Hop, NetworkParts}
 use Rattle.pce_common.specs.plant_model.declared.outcome.Outcome.{Outcome}
 use Rattle.pce_common.specs.plant_model.declared.outcome.Refused.{Refused}
 use Rattle.pce_common.specs.plant_model.declared.outcome.Refused.TheVariants.{NoMemory}

@@ -1,21 +1,9 @@
 -- An element that takes a message has at most as many more requests of its sender as that asks for, and no more of any other.
 use Rattle.std.proofs.Common.{ℕ, ◌+◌, ◌≤◌, Bool, true, false, cond, ◌==◌, nat_eq, List, [], ◌∷◌, Option, Some, None, arith}
-use Rattle.dom_base.specs.declared.names.As.{As}
-use Rattle.dom_base.specs.declared.names.Peer.{Peer}
-use Rattle.pcep_subobjects.specs.declared.hop.Hop.{Hop}
-use Rattle.pcep_messages.specs.declared.message.Message.{Message}
+use Rattle.pce_common.specs.plant_model.Types.{As, Peer, Hop, Message, Asked, Reply, Notice, ErrorReport, Answer, Request, Wanted, Wish, Class}
 use Rattle.pcep_messages.specs.declared.message.Message.TheVariants as messages
-use Rattle.pcep_messages.specs.declared.message.Asked.{Asked}
-use Rattle.pcep_messages.specs.declared.message.Reply.{Reply}
-use Rattle.pcep_messages.specs.declared.message.Notice.{Notice}
-use Rattle.pcep_messages.specs.declared.message.ErrorReport.{ErrorReport}
-use Rattle.pcep_messages.specs.declared.message.Answer.{Answer}
 use Rattle.pcep_messages.specs.declared.message.Answer.TheVariants.{Paths, NoPath}
-use Rattle.pcep_messages.specs.declared.message.Request.{Request}
-use Rattle.pcep_messages.specs.declared.message.Wanted.{Wanted}
-use Rattle.pcep_messages.specs.declared.message.Wish.{Wish}
 use Rattle.pcep_messages.specs.declared.message.Wish.TheVariants.{Path, Expand}
-use Rattle.disclosure.specs.declared.class.Class.{Class}
 use Rattle.request_table.specs.Pending.{Pending, number_of, opened_of, key_of, is_full, same_peer}
 use Rattle.pce_common.specs.plant_model.Names.{has_pair, the_parent}
 use Rattle.pce_common.specs.plant_model.Wire.{Codec, Checked, Admitted, Wrong}

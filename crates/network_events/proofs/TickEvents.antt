@@ -1,8 +1,6 @@
 -- A tick as an event: how it begins, its deeds together, and what stands after it.
 use Rattle.std.proofs.Common.{◌≡◌, ◌≤◌, ℕ, ◌+◌, ◌*◌, List, [], length, Ok, refl, ap, sym, subst, ◌∙◌, arith}
-use Rattle.dom_base.specs.declared.names.Tick.{Tick}
-use Rattle.pcep_subobjects.specs.declared.hop.Hop.{Hop}
-use Rattle.plant_text.specs.declared.settings.NetworkParts.{NetworkParts}
+use Rattle.pce_common.specs.plant_model.Types.{Tick, Hop, NetworkParts}
 use Rattle.plant_text.specs.Settings.{adjacencies}
 use Rattle.pce_common.specs.plant_model.declared.outcome.Outcome.TheVariants.{Done}
 use Rattle.pce_common.specs.plant_model.RealWire.{wire}

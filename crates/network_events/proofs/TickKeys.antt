@@ -1,17 +1,9 @@
 -- A tick issues no key: the clocks of keys stay as they are until keys expire.
 use Rattle.std.proofs.Common.{◌≡◌, ◌≤◌, ℕ, zero, suc, Bool, true, false, cond, Option, Some, None, List, [], ◌∷◌, length, refl, ap, sym, subst, ◌∙◌, inl, inr}
-use Rattle.dom_base.specs.declared.names.As.{As}
-use Rattle.dom_base.specs.declared.names.Tick.{Tick}
-use Rattle.dom_base.specs.declared.names.Peer.{Peer}
-use Rattle.dom_base.specs.declared.names.Peer.TheVariants.{Outside, Inner}
-use Rattle.pcep_subobjects.specs.declared.hop.Hop.{Hop}
-use Rattle.pcep_session.specs.declared.actions.Action.{Action}
-use Rattle.pcep_session.specs.declared.actions.Own.{Own}
+use Rattle.pce_common.specs.plant_model.Types.{As, Tick, Peer, Outside, Inner, Hop, Action, Own, NetworkParts, PeerRow}
 use Rattle.pcep_session.specs.declared.actions.Own.TheVariants as own
 use Rattle.pcep_session.specs.declared.session.Input.TheVariants as input
 use Rattle.pcep_session.specs.Table.{turn_of}
-use Rattle.plant_text.specs.declared.settings.NetworkParts.{NetworkParts}
-use Rattle.plant_text.specs.declared.settings.PeerRow.{PeerRow}
 use Rattle.plant_text.specs.Names.{same_as, parent_as}
 use Rattle.plant_text.specs.Settings.{Adjacency, is_element}
 use Rattle.pce_common.specs.plant_model.Names.{is_empty}

@@ -1,10 +1,7 @@
 -- The inputs of a tick, one after the other.
 use Rattle.std.proofs.Common.{◌≡◌, ℕ, zero, suc, ◌+◌, List, [], ◌∷◌, ◌++◌, length, refl, ap, ◌∙◌, arith}
-use Rattle.dom_base.specs.declared.names.Tick.{Tick}
-use Rattle.pcep_subobjects.specs.declared.hop.Hop.{Hop}
+use Rattle.pce_common.specs.plant_model.Types.{Tick, Hop, NetworkParts, PeerRow}
 use Rattle.pcep_session.specs.declared.session.Input.TheVariants as input
-use Rattle.plant_text.specs.declared.settings.NetworkParts.{NetworkParts}
-use Rattle.plant_text.specs.declared.settings.PeerRow.{PeerRow}
 use Rattle.plant_text.specs.Settings.{Adjacency}
 use Rattle.pce_common.specs.plant_model.RealWire.{wire}
 use Rattle.pce_common.specs.plant_model.Deeds as deeds

@@ -4,12 +4,8 @@ use Rattle.std.specs.Prelude.{slice_get, nat_lt}
 use Rattle.std.proofs.lemmas.Bool.{eqb-false}
 use Rattle.std.proofs.Math.Nat.{mod-eq_of_lt}
 use Rattle.std.proofs.lemmas.Bool.Decides.{nat_tests}
-use Rattle.dom_base.specs.declared.names.As.{As}
-use Rattle.dom_base.specs.declared.names.Peer.{Peer}
-use Rattle.dom_base.specs.declared.names.Tick.{Tick}
-use Rattle.pcep_subobjects.specs.declared.hop.Hop.{Hop}
+use Rattle.pce_common.specs.plant_model.Types.{As, Peer, Tick, Hop, NetworkParts}
 use Rattle.pcep_session.specs.declared.session.Input.TheVariants as input
-use Rattle.plant_text.specs.declared.settings.NetworkParts.{NetworkParts}
 use Rattle.plant_text.specs.Names.{same_as, same_link}
 use Rattle.plant_text.specs.Settings.{Adjacency, before_adjacency, children, has_adjacency, insert_adjacency, adjacency, adjacencies, sorted, upward}
 use Rattle.network_links.specs.Adjacencies.{adjacency_of}

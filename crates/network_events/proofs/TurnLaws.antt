@@ -1,14 +1,11 @@
 -- What a step of a session asks for.
 use Rattle.std.proofs.Common.{◌⊎◌, ℕ, ◌==◌, ◌&&◌, not, Bool, true, false, cond, List, refl, sym, subst, inl, inr, arith}
-use Rattle.dom_base.specs.declared.names.Tick.{Tick}
-use Rattle.pcep_session.specs.declared.actions.Action.{Action}
+use Rattle.pce_common.specs.plant_model.Types.{Tick, Action, Phase, State}
 use Rattle.pcep_session.specs.declared.actions.Own.TheVariants as own
 use Rattle.pcep_session.specs.declared.actions.Reason.{Reason}
 use Rattle.pcep_session.specs.declared.actions.Reason.TheVariants as reason
 use Rattle.pcep_session.specs.declared.session.Input.TheVariants.{Tick as Ticked}
-use Rattle.pcep_session.specs.declared.state.Phase.{Phase}
 use Rattle.pcep_session.specs.declared.state.Phase.TheVariants.{Idle, OpenWait, KeepWait, Up, Down}
-use Rattle.pcep_session.specs.declared.state.State.{State}
 use Rattle.pcep_session.specs.Table.{SessionStep, turn_in, turn_of, up_tick, waits, at_tick, has_passed}
 use Rattle.pce_common.specs.plant_model.Events.{is_down}
 use Rattle.network_events.specs.Acting.{IsOwnTurn}

@@ -1,10 +1,7 @@
 -- Room that queues have, accounted for by what is said: with each message there is no less room by more than it takes.
 use Rattle.std.specs.Prelude.{◌≡◌, ◌≤◌, ℕ, ◌+◌, Bool, true, false, cond, List, [], ◌∷◌, length, is_some}
-use Rattle.dom_base.specs.declared.names.As.{As}
-use Rattle.dom_base.specs.declared.names.Peer.{Peer}
-use Rattle.dom_base.specs.declared.names.Peer.TheVariants.{Outside, Inner}
+use Rattle.pce_common.specs.plant_model.Types.{As, Peer, Outside, Inner, Sent}
 use Rattle.request_table.specs.Pending.{same_peer}
-use Rattle.plant_queues.specs.declared.sent.Sent.{Sent}
 use Rattle.plant_queues.specs.Messages.{total}
 use Rattle.plant_queues.specs.Sents.{size_of}
 use Rattle.plant_text.specs.Names.{same_as}

@@ -1,7 +1,6 @@
 -- A link that breaks, and the room that this needs.
 use Rattle.std.specs.Prelude.{ℕ, ◌+◌, ◌*◌, List, length}
-use Rattle.dom_base.specs.declared.names.As.{As}
-use Rattle.dom_base.specs.declared.names.Peer.TheVariants.{Outside, Inner}
+use Rattle.pce_common.specs.plant_model.Types.{As, Outside, Inner}
 use Rattle.plant_queues.specs.Messages.{Covers}
 use Rattle.pce_common.specs.plant_model.declared.output.Lost.{Lost}
 use Rattle.network_links.specs.declared.TheConstants.{ANSWER_LENGTH, OWN_LENGTH}

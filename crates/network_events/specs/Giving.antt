@@ -1,14 +1,8 @@
 -- A member is given a message: what it sends, and the room that this needs.
 use Rattle.std.specs.Prelude.{◌≡◌, ℕ, ◌+◌, ◌*◌, Bool, true, List, [], ◌∷◌, length, Some, slice_get}
-use Rattle.dom_base.specs.declared.names.As.{As}
-use Rattle.dom_base.specs.declared.names.Peer.{Peer}
-use Rattle.dom_base.specs.declared.names.Peer.TheVariants.{Outside, Inner}
-use Rattle.pcep_subobjects.specs.declared.hop.Hop.{Hop}
-use Rattle.pcep_messages.specs.declared.message.Message.{Message}
-use Rattle.plant_queues.specs.declared.sent.Sent.{Sent}
+use Rattle.pce_common.specs.plant_model.Types.{As, Peer, Outside, Inner, Hop, Message, Sent, NetworkParts}
 use Rattle.plant_queues.specs.Messages.{Covers, total}
 use Rattle.plant_queues.specs.Sents.{size_of}
-use Rattle.plant_text.specs.declared.settings.NetworkParts.{NetworkParts}
 use Rattle.plant_text.specs.Names.{same_as}
 use Rattle.plant_text.specs.Settings.{elements_of}
 use Rattle.pce_common.specs.plant_model.Deeds.{element_of}

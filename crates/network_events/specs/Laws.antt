@@ -1,10 +1,6 @@
 -- How many requests of a peer are pending at a member, from change to change.
 use Rattle.std.specs.Prelude.{◌≤◌, ℕ, ◌+◌, Bool, cond, List}
-use Rattle.dom_base.specs.declared.names.As.{As}
-use Rattle.dom_base.specs.declared.names.Peer.{Peer}
-use Rattle.pcep_subobjects.specs.declared.hop.Hop.{Hop}
-use Rattle.pcep_messages.specs.declared.message.Message.{Message}
-use Rattle.plant_text.specs.declared.settings.NetworkParts.{NetworkParts}
+use Rattle.pce_common.specs.plant_model.Types.{As, Peer, Hop, Message, NetworkParts}
 use Rattle.plant_text.specs.Names.{same_as}
 use Rattle.pce_common.specs.plant_model.Wire.{Codec}
 use Rattle.pce_common.specs.plant_model.Plant.{Pin, Segment}

@@ -1,8 +1,6 @@
 -- What a network keeps between events, and how it goes on by one.
 use Rattle.std.specs.Prelude.{◌≡◌, ◌⊎◌, ◌<◌, ◌^◌, Bool, true, false, List, [], length}
-use Rattle.dom_base.specs.declared.names.As.{As}
-use Rattle.pcep_subobjects.specs.declared.hop.Hop.{Hop}
-use Rattle.plant_text.specs.declared.settings.NetworkParts.{NetworkParts}
+use Rattle.pce_common.specs.plant_model.Types.{As, Hop, NetworkParts}
 use Rattle.plant_text.specs.Names.{parent_as, same_as}
 use Rattle.plant_text.specs.Settings.{has_adjacency, is_element, adjacencies}
 use Rattle.pce_common.specs.plant_model.declared.outcome.Refused.TheVariants.{NoMemory}

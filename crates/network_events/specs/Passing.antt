@@ -1,6 +1,6 @@
 -- What a network's traffic is between events.
 use Rattle.std.specs.Prelude.{◌≡◌, length}
-use Rattle.plant_text.specs.declared.settings.NetworkParts.{NetworkParts}
+use Rattle.pce_common.specs.plant_model.Types.{NetworkParts}
 use Rattle.plant_text.specs.Settings.{adjacencies}
 use Rattle.network_links.specs.Flow.{Flow}
 

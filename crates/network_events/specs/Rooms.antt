@@ -1,11 +1,8 @@
 -- The room that is kept between events, so that a tick, a break and a shut take no memory.
 use Rattle.std.specs.Prelude.{◌≡◌, ℕ, ◌+◌, ◌*◌, Bool, true, false, not, cond, [], length, Option, Some, None}
-use Rattle.dom_base.specs.declared.names.As.{As}
-use Rattle.dom_base.specs.declared.names.Peer.{Peer}
-use Rattle.dom_base.specs.declared.names.Peer.TheVariants.{Outside, Inner}
+use Rattle.pce_common.specs.plant_model.Types.{As, Peer, Outside, Inner, NetworkParts}
 use Rattle.plant_queues.specs.Messages.{Spare, Covers, total}
 use Rattle.plant_queues.specs.Sents.{size_of}
-use Rattle.plant_text.specs.declared.settings.NetworkParts.{NetworkParts}
 use Rattle.plant_text.specs.Names.{same_as}
 use Rattle.plant_text.specs.Settings.{has_adjacency, adjacencies, elements_of}
 use Rattle.pce_common.specs.plant_model.State.{Connection}

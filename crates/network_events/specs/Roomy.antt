@@ -1,6 +1,6 @@
 -- The room that is left in the middle of an event, once what was said before it is cleared.
 use Rattle.std.specs.Prelude.{ℕ}
-use Rattle.plant_text.specs.declared.settings.NetworkParts.{NetworkParts}
+use Rattle.pce_common.specs.plant_model.Types.{NetworkParts}
 use Rattle.network_links.specs.Flow.{Flow}
 use Rattle.pce_common.specs.Membership.{Membership}
 use Rattle.network_events.specs.Rooms.{KeepsAnswers, KeepsSaid, own_most, said_in_all}

@@ -1,7 +1,6 @@
 -- Where members and traffic stand in an event that has gone so far, and what a deed makes of them.
 use Rattle.std.specs.Prelude.{◌≡◌, List, []}
-use Rattle.dom_base.specs.declared.names.As.{As}
-use Rattle.plant_text.specs.declared.settings.NetworkParts.{NetworkParts}
+use Rattle.pce_common.specs.plant_model.Types.{As, NetworkParts}
 use Rattle.pce_common.specs.plant_model.declared.output.Lost.{Lost}
 use Rattle.pce_common.specs.plant_model.RealWire.{wire}
 use Rattle.pce_common.specs.plant_model.State.{State, said}

@@ -1,11 +1,6 @@
 -- A session is given the first that waits for it: what it then asks for, and what it has become.
 use Rattle.std.specs.Prelude.{◌≡◌, true, List, Option, Some, Result, Ok, Err}
-use Rattle.dom_base.specs.declared.names.As.{As}
-use Rattle.dom_base.specs.declared.names.NoMemory.{NoMemory}
-use Rattle.dom_base.specs.declared.names.Peer.{Peer}
-use Rattle.pcep_subobjects.specs.declared.hop.Hop.{Hop}
-use Rattle.pcep_session.specs.declared.actions.Action.{Action}
-use Rattle.pcep_session.specs.declared.state.State.{State as Session}
+use Rattle.pce_common.specs.plant_model.Types.{As, NoMemory, Peer, Hop, Action, State as Session}
 use Rattle.pcep_session.specs.Table.{turn_of}
 use Rattle.pce_common.specs.plant_model.declared.outcome.Outcome.TheVariants.{Done}
 use Rattle.pce_common.specs.plant_model.declared.outcome.Refused.TheVariants as refused

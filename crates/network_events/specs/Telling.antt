@@ -1,7 +1,6 @@
 -- The lost requests of a member are answered, one after the other.
 use Rattle.std.specs.Prelude.{ℕ, ◌*◌, Bool, List, [], ◌∷◌, length, filter}
-use Rattle.dom_base.specs.declared.names.As.{As}
-use Rattle.dom_base.specs.declared.names.Peer.{Peer}
+use Rattle.pce_common.specs.plant_model.Types.{As, Peer}
 use Rattle.pcep_messages.specs.Spelling.{message_text}
 use Rattle.plant_queues.specs.Messages.{Covers}
 use Rattle.pce_common.specs.plant_model.declared.output.Lost.{Lost}

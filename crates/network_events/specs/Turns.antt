@@ -1,15 +1,10 @@
 -- What a step of a session asks for, at any input and at a tick.
 use Rattle.std.specs.Prelude.{◌≡◌, ◌⊎◌, ◌≤◌, List, [], ◌∷◌, length}
-use Rattle.dom_base.specs.declared.names.Tick.{Tick}
-use Rattle.pcep_messages.specs.declared.message.Message.{Message}
-use Rattle.pcep_session.specs.declared.actions.Action.{Action}
+use Rattle.pce_common.specs.plant_model.Types.{Tick, Message, Action, Own, Input, State as Session}
 use Rattle.pcep_session.specs.declared.actions.Action.TheVariants.{Send, Down, Pass}
-use Rattle.pcep_session.specs.declared.actions.Own.{Own}
 use Rattle.pcep_session.specs.declared.actions.Own.TheVariants.{Keepalive}
 use Rattle.pcep_session.specs.declared.actions.Reason.{Reason}
-use Rattle.pcep_session.specs.declared.session.Input.{Input}
 use Rattle.pcep_session.specs.declared.session.Input.TheVariants.{Tick as Ticked}
-use Rattle.pcep_session.specs.declared.state.State.{State as Session}
 use Rattle.pcep_session.specs.Table.{turn_of}
 use Rattle.network_links.specs.declared.TheConstants.{OWN_LENGTH}
 use Rattle.network_links.specs.Ends.{own_bytes}

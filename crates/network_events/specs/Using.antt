@@ -1,7 +1,6 @@
 -- Deeds that use up words of sessions' own, of the room that is kept in an event.
 use Rattle.std.specs.Prelude.{◌≡◌, ℕ, ◌+◌, []}
-use Rattle.dom_base.specs.declared.names.As.{As}
-use Rattle.plant_text.specs.declared.settings.NetworkParts.{NetworkParts}
+use Rattle.pce_common.specs.plant_model.Types.{As, NetworkParts}
 use Rattle.pce_common.specs.plant_model.Deeds.{Going}
 use Rattle.network_links.specs.Flow.{Flow}
 use Rattle.pce_common.specs.Membership.{Membership}

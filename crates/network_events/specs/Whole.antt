@@ -1,7 +1,6 @@
 -- A network as its callers see it, whatever a pin is and a key stands for, and what a step of a model leaves of it.
 use Rattle.std.specs.Prelude.{◌≡◌, List, OnOk, OnErr}
-use Rattle.plant_text.specs.declared.settings.NetworkParts.{NetworkParts}
-use Rattle.plant_queues.specs.declared.sent.Sent.{Sent}
+use Rattle.pce_common.specs.plant_model.Types.{NetworkParts, Sent}
 use Rattle.pce_common.specs.plant_model.Events.{Answered, Happened}
 use Rattle.pce_common.specs.plant_model.RealWire.{wire}
 use Rattle.pce_common.specs.plant_model.State as model

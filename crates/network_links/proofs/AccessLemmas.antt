@@ -2,8 +2,7 @@
 use Rattle.std.proofs.Common.{◌≡◌, ◌≤◌, ◌==◌, ◌+◌, ◌%◌, ℕ, zero, suc, Bool, true, false, Option, Some, None, Result, Ok, Err, List, [], ◌∷◌, length, set, arith, refl, sym, ◌∙◌, ap, subst}
 use Rattle.std.specs.Prelude.{slice_get, IsSomeAnd}
 use Rattle.std.proofs.lemmas.Option.{slice_get_past}
-use Rattle.dom_base.specs.declared.names.NoMemory.{NoMemory as Want}
-use Rattle.dom_base.specs.declared.names.Tick.{Tick}
+use Rattle.plant_model.specs.Types.{NoMemory as Want, Tick}
 use Rattle.plant_queues.specs.Messages.{Spare, Covers}
 use Rattle.plant_model.specs.declared.outcome.Refused.{Refused}
 use Rattle.plant_model.specs.declared.outcome.Refused.TheVariants.{NoSuchPeer}

@@ -1,11 +1,7 @@
 -- What is on its way, where the outside peers, the links or what is said change.
 use Rattle.std.proofs.Common.{◌≡◌, ◌==◌, ℕ, Bool, true, false, cond, Option, Some, None, List, [], ◌∷◌, ◌++◌, Result, Ok, Err, OnOk, OnErr, drop, refl, sym, ◌∙◌, ap, subst}
-use Rattle.dom_base.specs.declared.names.As.{As}
-use Rattle.dom_base.specs.declared.names.NoMemory.{NoMemory}
-use Rattle.dom_base.specs.declared.names.Peer.TheVariants.{Outside, Inner}
+use Rattle.plant_model.specs.Types.{As, NoMemory, State as Session, Sent, Outside, Inner}
 use Rattle.pcep_session.specs.declared.actions.Own.TheVariants.{Open}
-use Rattle.pcep_session.specs.declared.state.State.{State as Session}
-use Rattle.plant_queues.specs.declared.sent.Sent.{Sent}
 use Rattle.plant_queues.specs.Messages.{Queued, Spare}
 use Rattle.plant_queues.specs.Sents.{sent_of}
 use Rattle.plant_text.specs.Names.{same_as}

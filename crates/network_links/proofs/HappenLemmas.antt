@@ -1,9 +1,8 @@
 -- What an outside peer feeds, and what it is handed out, are events of the model.
 use Rattle.std.proofs.Common.{◌≡◌, ◌==◌, ℕ, Bool, true, false, not, cond, Option, Some, None, Result, Ok, Err, List, [], refl, sym, ◌∙◌, ap, inl, inr}
 use Rattle.std.specs.Prelude.{◌⊎◌}
-use Rattle.pcep_subobjects.specs.declared.hop.Hop.{Hop}
+use Rattle.plant_model.specs.Types.{Hop, NetworkParts}
 use Rattle.pcep_framing.specs.Frames.{joined}
-use Rattle.plant_text.specs.declared.settings.NetworkParts.{NetworkParts}
 use Rattle.plant_model.specs.declared.outcome.Outcome.TheVariants.{Done}
 use Rattle.plant_model.specs.declared.outcome.Refused.{Refused}
 use Rattle.plant_model.specs.declared.outcome.Refused.TheVariants.{NoSuchPeer, NotHolder, NoMemory}

@@ -1,7 +1,7 @@
 -- Outside peers by their number.
 use Rattle.std.proofs.Common.{◌≡◌, ℕ, zero, suc, List, [], ◌∷◌, refl}
 use Rattle.std.specs.Prelude.{slice_get}
-use Rattle.plant_text.specs.declared.settings.PeerRow.{PeerRow}
+use Rattle.plant_model.specs.Types.{PeerRow}
 use Rattle.plant_text.specs.Settings.{peer_row}
 
 pub peer_row_is : (i : ℕ) (rows : List PeerRow) → peer_row i rows ≡ slice_get rows i

@@ -1,7 +1,7 @@
 -- The first link between two ends.
 use Rattle.std.proofs.Common.{◌≡◌, ◌≤◌, ◌<◌, ℕ, zero, suc, Bool, true, false, cond, Some, None, List, [], ◌∷◌, length, get_or, arith, refl, sym, ◌∙◌, ap}
 use Rattle.std.proofs.lemmas.Option.{slice_get-get_or}
-use Rattle.dom_base.specs.declared.names.As.{As}
+use Rattle.plant_model.specs.Types.{As}
 use Rattle.plant_text.specs.Names.{same_link}
 use Rattle.network_links.specs.declared.link.End.{End}
 use Rattle.network_links.specs.Links.{Joined}

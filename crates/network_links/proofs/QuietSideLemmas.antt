@@ -1,8 +1,7 @@
 -- A tick at which a session has nothing to say or to do keeps its number.
 use Rattle.std.proofs.Common.{◌≡◌, Bool, true, false, cond, refl}
-use Rattle.dom_base.specs.declared.names.Tick.{Tick}
+use Rattle.plant_model.specs.Types.{Tick, State}
 use Rattle.pcep_session.specs.declared.session.Input.TheVariants.{Tick as Ticked}
-use Rattle.pcep_session.specs.declared.state.State.{State}
 use Rattle.pcep_session.specs.Quiet.{is_quiet, after_quiet}
 use Rattle.pcep_session.specs.Table.{turn_of}
 use Rattle.network_links.proofs.StepLemmas.{steps_keep_number}

@@ -1,8 +1,7 @@
 -- One outside peer as it is held, and what calls do to it.
 use Rattle.std.specs.Prelude.{◌≡◌, ◌==◌, ◌+◌, ◌%◌, ℕ, Bool, true, false, List, Option, Some, None, Result, Err, OnOk, OnErr, IsSomeAnd, slice_get, slice_set}
 use Rattle.std.specs.Option.{option_map}
-use Rattle.dom_base.specs.declared.names.NoMemory.{NoMemory as Want}
-use Rattle.dom_base.specs.declared.names.Tick.{Tick}
+use Rattle.plant_model.specs.Types.{NoMemory as Want, Tick}
 use Rattle.plant_model.specs.declared.outcome.Refused.{Refused}
 use Rattle.plant_model.specs.declared.outcome.Refused.TheVariants.{NoSuchPeer, NotHolder, NoMemory}
 use Rattle.plant_model.specs.Wire.{Bytes}

@@ -1,6 +1,6 @@
 -- A traffic as a value, and the flow that it is.
 use Rattle.std.specs.Prelude.{ℕ, List}
-use Rattle.plant_queues.specs.declared.sent.Sent.{Sent}
+use Rattle.plant_model.specs.Types.{Sent}
 use Rattle.plant_queues.specs.Messages.{Queued}
 use Rattle.network_links.specs.declared.access.Access.{Access}
 use Rattle.network_links.specs.Links.{Joined}

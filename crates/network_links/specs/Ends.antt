@@ -1,13 +1,9 @@
 -- What stands at one end of a session: its state, and the messages that it has sent and that are on their way.
 use Rattle.std.specs.Prelude.{◌≡◌, ℕ, Bool, true, false, cond, List, [], ◌∷◌, ◌++◌, Option, Some, None}
-use Rattle.dom_base.specs.declared.names.Tick.{Tick}
+use Rattle.plant_model.specs.Types.{Tick, Action, Own, Input, State as Session}
 use Rattle.pcep_messages.specs.Spelling.{message_text}
-use Rattle.pcep_session.specs.declared.actions.Action.{Action}
 use Rattle.pcep_session.specs.declared.actions.Action.TheVariants.{Send, Up, Down, Pass}
-use Rattle.pcep_session.specs.declared.actions.Own.{Own}
-use Rattle.pcep_session.specs.declared.session.Input.{Input}
 use Rattle.pcep_session.specs.declared.session.Input.TheVariants.{Begin}
-use Rattle.pcep_session.specs.declared.state.State.{State as Session}
 use Rattle.pcep_session.specs.Table.{new_state, turn_of}
 use Rattle.plant_queues.specs.Messages.{Spare}
 use Rattle.plant_model.specs.Names.{is_empty}

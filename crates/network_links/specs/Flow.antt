@@ -1,16 +1,10 @@
 -- What is on its way in a network, whatever its elements are.
 use Rattle.std.specs.Prelude.{◌≡◌, ℕ, ◌+◌, ◌%◌, true, List, [], ◌∷◌, ◌++◌, Option, Some, None, Result, OnOk, OnErr, drop, slice_get}
 use Rattle.std.specs.Option.{option_map}
-use Rattle.dom_base.specs.declared.names.As.{As}
-use Rattle.dom_base.specs.declared.names.NoMemory.{NoMemory}
-use Rattle.dom_base.specs.declared.names.Peer.{Peer}
-use Rattle.dom_base.specs.declared.names.Peer.TheVariants.{Outside, Inner}
-use Rattle.dom_base.specs.declared.names.Tick.{Tick}
+use Rattle.plant_model.specs.Types.{As, NoMemory, Peer, Outside, Inner, Tick, State as Session, Sent}
 use Rattle.pcep_session.specs.declared.actions.Own.TheVariants.{Open}
 use Rattle.pcep_session.specs.declared.session.Input.TheVariants.{Begin}
-use Rattle.pcep_session.specs.declared.state.State.{State as Session}
 use Rattle.pcep_session.specs.Table.{new_state, turn_of}
-use Rattle.plant_queues.specs.declared.sent.Sent.{Sent}
 use Rattle.plant_queues.specs.Messages.{Spare, IsRoomAgain}
 use Rattle.plant_queues.specs.Sents.{sent_of, size_of}
 use Rattle.plant_text.specs.Names.{parent_as}

@@ -1,8 +1,7 @@
 -- An inner link: two sessions and two queues, each named by the end that sends.
 use Rattle.std.specs.Prelude.{ℕ, ◌+◌, ◌%◌, List, []}
-use Rattle.dom_base.specs.declared.names.As.{As}
+use Rattle.plant_model.specs.Types.{As, State as Session}
 use Rattle.plant_text.specs.Settings.{Adjacency}
-use Rattle.pcep_session.specs.declared.state.State.{State as Session}
 use Rattle.pcep_session.specs.Table.{new_state}
 use Rattle.plant_model.specs.Deeds.{our_offer}
 use Rattle.network_links.specs.declared.link.End.{End}

@@ -1,8 +1,7 @@
 -- Outside peers by their numbers.
 use Rattle.std.specs.Prelude.{◌≡◌, ◌==◌, ℕ, Bool, true, false, List, [], Option, Some, None, Result, Err, IfOk, OnOk, OnErr, slice_get, length}
 use Rattle.std.specs.Option.{option_map}
-use Rattle.dom_base.specs.declared.names.NoMemory.{NoMemory as Want}
-use Rattle.dom_base.specs.declared.names.Tick.{Tick}
+use Rattle.plant_model.specs.Types.{NoMemory as Want, Tick}
 use Rattle.pcep_framing.specs.Frames.{joined}
 use Rattle.plant_queues.specs.Messages.{Spare}
 use Rattle.plant_model.specs.declared.outcome.Refused.{Refused}

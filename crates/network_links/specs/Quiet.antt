@@ -1,9 +1,6 @@
 -- What a tick does to an outside peer, or to an end of a link, whose session has nothing to say or to do at it.
 use Rattle.std.specs.Prelude.{◌≡◌, Bool, true}
-use Rattle.dom_base.specs.declared.names.As.{As}
-use Rattle.dom_base.specs.declared.names.Peer.{Peer}
-use Rattle.dom_base.specs.declared.names.Peer.TheVariants.{Outside, Inner}
-use Rattle.dom_base.specs.declared.names.Tick.{Tick}
+use Rattle.plant_model.specs.Types.{As, Peer, Outside, Inner, Tick}
 use Rattle.pcep_session.specs.Quiet.{after_quiet, is_quiet}
 use Rattle.plant_text.specs.Settings.{has_adjacency}
 use Rattle.network_links.specs.declared.access.Access.{Access}

@@ -1,6 +1,6 @@
 -- What a tick makes of a connection whose session has nothing to say or to do at it.
 use Rattle.std.specs.Prelude.{Bool, true, Option, Some, None}
-use Rattle.dom_base.specs.declared.names.Tick.{Tick}
+use Rattle.plant_model.specs.Types.{Tick}
 use Rattle.pcep_session.specs.Quiet.{is_quiet, after_quiet}
 use Rattle.plant_model.specs.State.{Connection}
 use Rattle.plant_model.specs.Deeds.{with_session}

@@ -1,10 +1,7 @@
 -- A row of links, as what each end sends to the other.
 use Rattle.std.specs.Prelude.{◌≡◌, ℕ, zero, suc, true, false, cond, List, [], ◌∷◌, Option, Some, None, Result, OnOk, map, drop, slice_get, slice_set}
-use Rattle.dom_base.specs.declared.names.As.{As}
-use Rattle.dom_base.specs.declared.names.NoMemory.{NoMemory}
-use Rattle.dom_base.specs.declared.names.Tick.{Tick}
+use Rattle.plant_model.specs.Types.{As, NoMemory, Tick, State as Session}
 use Rattle.pcep_session.specs.declared.actions.Own.TheVariants.{Open}
-use Rattle.pcep_session.specs.declared.state.State.{State as Session}
 use Rattle.plant_text.specs.Names.{same_as, same_link}
 use Rattle.plant_text.specs.Settings.{Adjacency, has_adjacency}
 use Rattle.plant_model.specs.Names.{set_pair}

@@ -1,6 +1,6 @@
 -- Which message is carried first: that of the least pair of sender and receiver.
 use Rattle.std.specs.Prelude.{◌≡◌, ◌<◌, ◌≤◌, ◌⊎◌, Bool, true, false, not, List, [], ◌∷◌, ◌++◌, All, Contains, Option, Some, None}
-use Rattle.dom_base.specs.declared.names.As.{As}
+use Rattle.plant_model.specs.Types.{As}
 use Rattle.plant_text.specs.Settings.{Adjacency}
 use Rattle.plant_model.specs.Names.{is_empty}
 use Rattle.network_links.specs.Flow.{Flow}

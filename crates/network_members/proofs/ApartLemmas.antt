@@ -2,9 +2,7 @@
 use Rattle.std.proofs.Common.{◌≡◌, ◌≢◌, Bool, true, false, cond, nat_lt, All, List, [], ◌∷◌, ◌++◌, refl, sym, ◌∙◌, ap₂}
 use Rattle.std.proofs.lemmas.Bool.{false≢true}
 use Rattle.std.proofs.lemmas.List.Elements.{All-head, All-tail}
-use Rattle.dom_base.specs.declared.names.As.{As}
-use Rattle.plant_text.specs.declared.settings.NetworkParts.{NetworkParts}
-use Rattle.plant_text.specs.declared.settings.ElementRow.{ElementRow}
+use Rattle.pce_common.specs.plant_model.Types.{As, NetworkParts, ElementRow}
 use Rattle.plant_text.specs.Names.{same_as, same_link, parent_as, insert_as}
 use Rattle.plant_text.specs.Networks.{ObeysRules}
 use Rattle.plant_text.specs.Settings.{Adjacency, adjacencies, before_adjacency, insert_adjacency, sorted, upward, has_adjacency, children, children_of}

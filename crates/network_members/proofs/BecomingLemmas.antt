@@ -3,8 +3,7 @@ use Rattle.std.proofs.Common.{◌≡◌, ◌<◌, ℕ, true, is_some, Option, So
 use Rattle.std.specs.Prelude.{IfErr, IfOk, IfSome}
 use Rattle.std.proofs.lemmas.Bool.{false≢true}
 use Rattle.std.proofs.lemmas.List.{get_or_read}
-use Rattle.dom_base.specs.declared.names.As.{As}
-use Rattle.plant_text.specs.declared.settings.NetworkParts.{NetworkParts}
+use Rattle.pce_common.specs.plant_model.Types.{As, NetworkParts}
 use Rattle.pce_common.specs.plant_model.Names.{set_as}
 use Rattle.pce_common.specs.plant_model.Element.{Element}
 use Rattle.pce_element.specs.Seen.{Seen, SameButRoom, with_losing}

@@ -1,15 +1,12 @@
 -- The members of a network that has just been made are those of the model's beginning.
 use Rattle.std.proofs.Common.{◌≡◌, Bool, true, false, cond, Some, List, [], ◌∷◌, refl, sym, ◌∙◌, ap, ap₂}
-use Rattle.dom_base.specs.declared.names.As.{As}
-use Rattle.dom_base.specs.declared.addr.Addr.{Addr}
-use Rattle.plant_text.specs.declared.settings.NetworkParts.{NetworkParts}
+use Rattle.pce_common.specs.plant_model.Types.{As, Addr, NetworkParts, Hop}
 use Rattle.plant_text.specs.Names.{same_as, parent_as}
 use Rattle.plant_text.specs.Networks.{ObeysRules}
 use Rattle.plant_text.specs.Settings.{elements_of}
 use Rattle.pce_common.specs.plant_model.Element.{Element, Way}
 use Rattle.pce_common.specs.plant_model.Parent as parent
 use Rattle.pce_common.specs.plant_model.Settings.{family, place}
-use Rattle.pcep_subobjects.specs.declared.hop.Hop.{Hop}
 use Rattle.pce_common.specs.Membership.{Membership}
 use Rattle.pce_element.specs.Seen.{Seen}
 use Rattle.pce_parent.specs.Seen as above

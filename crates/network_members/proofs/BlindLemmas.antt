@@ -2,10 +2,7 @@
 use Rattle.std.proofs.Common.{◌≡◌, ◌≤◌, ℕ, Bool, true, false, cond, nat_eq, is_some, option_map, Option, Some, None, Result, Ok, Err, List, inl, inr, refl, sym, ◌∙◌, ap, ap₂, subst}
 use Rattle.std.specs.Prelude.{IfOk, IfSome, MatchOption}
 use Rattle.std.specs.Map.{lookup}
-use Rattle.dom_base.specs.declared.names.As.{As}
-use Rattle.dom_base.specs.declared.names.NoMemory.{NoMemory}
-use Rattle.dom_base.specs.declared.border.BorderRow.{BorderRow}
-use Rattle.request_table.specs.declared.held.Held.{Held}
+use Rattle.pce_common.specs.plant_model.Types.{As, NoMemory, BorderRow, Held}
 use Rattle.plant_text.specs.Names.{same_as, parent_as}
 use Rattle.plant_text.specs.Settings.{is_element}
 use Rattle.pce_common.specs.plant_model.declared.outcome.Refused.{Refused}

@@ -1,7 +1,7 @@
 -- The current topology of an element, by its domain.
 use Rattle.std.proofs.Common.{◌≡◌, ◌∙◌, Option, Some, None, is_some, map, sym, subst, ap, refl}
 use Rattle.std.specs.Option.{option_map}
-use Rattle.dom_base.specs.declared.names.As.{As}
+use Rattle.pce_common.specs.plant_model.Types.{As}
 use Rattle.plant_text.specs.Settings.{elements_of}
 use Rattle.pce_common.specs.plant_model.Plant.{Pin, Segment, first_pin}
 use Rattle.pce_element.specs.Seen.{Seen}

@@ -2,9 +2,8 @@
 use Rattle.std.proofs.Common.{◌≡◌, ◌<◌, ◌≤◌, ℕ, zero, suc, Bool, true, false, cond, Some, None, List, [], ◌∷◌, length, map, get_or, set, arith, refl, sym, ◌∙◌, ap}
 use Rattle.std.proofs.lemmas.Bool.{eqb-true, eq-eqb, false≢true}
 use mathlib.Core.Path.{fun_ext}
-use Rattle.dom_base.specs.declared.names.As.{As}
+use Rattle.pce_common.specs.plant_model.Types.{As, NetworkParts}
 use Rattle.plant_text.specs.Names.{same_as}
-use Rattle.plant_text.specs.declared.settings.NetworkParts.{NetworkParts}
 use Rattle.pce_common.specs.plant_model.Names.{set_as}
 use Rattle.pce_element.specs.Seen.{Seen}
 use Rattle.network_members.specs.Elements.{own_of, at_domain, with_seen, element_or, elements_in, current_or, current_in, IsFirstAt, IsNowhere}

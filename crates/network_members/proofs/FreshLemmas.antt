@@ -2,12 +2,8 @@
 use Rattle.std.proofs.Common.{◌≡◌, ◌<◌, ◌≤◌, ℕ, zero, suc, Bool, true, false, cond, Option, Some, None, Result, List, [], ◌∷◌, ◌++◌, length, map, take, get_or, arith, refl, sym, ◌∙◌, ap, subst}
 use Rattle.std.specs.Prelude.{IfOk}
 use mathlib.Core.Path.{fun_ext}
-use Rattle.dom_base.specs.declared.names.As.{As}
-use Rattle.dom_base.specs.declared.names.NoMemory.{NoMemory}
-use Rattle.disclosure.specs.declared.class.Deny.{Deny}
+use Rattle.pce_common.specs.plant_model.Types.{As, NoMemory, Deny, NetworkParts, ElementRow}
 use Rattle.plant_text.specs.Names.{same_as}
-use Rattle.plant_text.specs.declared.settings.NetworkParts.{NetworkParts}
-use Rattle.plant_text.specs.declared.settings.ElementRow.{ElementRow}
 use Rattle.plant_text.specs.Settings.{row_of, life, life_from, deny_at, adjacencies}
 use Rattle.pce_common.specs.plant_model.Element.{Element, Way, ElementSettings}
 use Rattle.pce_common.specs.plant_model.declared.route.Route.{Route}

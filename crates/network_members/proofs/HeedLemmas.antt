@@ -1,14 +1,11 @@
 -- What the element of a domain heeds is what the model has it heed.
 use Rattle.std.proofs.Common.{◌≡◌, ℕ, Option, Some, None, refl, ap}
 use mathlib.Core.Path.{fun_ext}
-use Rattle.dom_base.specs.declared.names.As.{As}
-use Rattle.dom_base.specs.declared.names.Peer.TheVariants.{Outside}
-use Rattle.pcep_messages.specs.declared.message.Message.{Message}
+use Rattle.pce_common.specs.plant_model.Types.{As, Message, NetworkParts, Outside}
 use Rattle.pce_common.specs.plant_model.Element.{sent_through}
 use Rattle.pce_common.specs.plant_model.Outside.{heeded_in}
 use Rattle.pce_common.specs.plant_model.RealWire.{wire}
 use Rattle.pce_common.specs.Membership.{heard}
-use Rattle.plant_text.specs.declared.settings.NetworkParts.{NetworkParts}
 use Rattle.pce_element.specs.Seen.{Seen}
 use Rattle.network_members.specs.Elements.{at_domain, element_or}
 use Rattle.network_members.specs.Heeding.{sent_at}

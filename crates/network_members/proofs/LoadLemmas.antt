@@ -1,8 +1,7 @@
 -- An element that loads a topology is the event of the model.
 use Rattle.std.proofs.Common.{◌≡◌, ℕ, suc, Bool, true, false, cond, is_some, Option, Some, None, Result, Ok, Err, List, [], ◌∷◌, refl, sym, ◌∙◌, ap, ap₂, subst, inl, inr}
-use Rattle.dom_base.specs.declared.names.As.{As}
+use Rattle.pce_common.specs.plant_model.Types.{As, NetworkParts}
 use Rattle.te_links.specs.Rows.{Rows}
-use Rattle.plant_text.specs.declared.settings.NetworkParts.{NetworkParts}
 use Rattle.plant_text.specs.Settings.{is_element}
 use Rattle.pce_common.specs.plant_model.declared.event.Event.TheVariants as event
 use Rattle.pce_common.specs.plant_model.declared.outcome.Outcome.TheVariants.{Loaded}

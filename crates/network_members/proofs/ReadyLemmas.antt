@@ -1,7 +1,7 @@
 -- Jobs that can be solved, by their place among those of all elements.
 use Rattle.std.proofs.Common.{◌≡◌, ◌<◌, ◌≤◌, ◌-◌, ℕ, zero, suc, Some, None, List, [], ◌∷◌, ◌++◌, length, map, drop, get_or, arith, refl, sym, ◌∙◌, ap}
 use Rattle.std.specs.Prelude.{slice_get}
-use Rattle.dom_base.specs.declared.names.As.{As}
+use Rattle.pce_common.specs.plant_model.Types.{As}
 use Rattle.pce_common.specs.plant_model.Element.{ready_numbers}
 use Rattle.pce_common.specs.plant_model.Events.{jobs_at}
 use Rattle.pce_element.specs.Seen.{Seen}

@@ -3,9 +3,7 @@ use Rattle.std.proofs.Common.{◌≡◌, ◌<◌, ◌≤◌, ℕ, suc, Bool, tru
 use Rattle.std.proofs.lemmas.Bool.{cases_lt, lt-ltb, le-ltb, eqb-true, eqb-false, ne_eqb}
 use Rattle.std.proofs.lemmas.List.Elements.{All-nil, All-cons}
 use Rattle.std.proofs.lemmas.List.Kept.{AllPairs-cons}
-use Rattle.dom_base.specs.declared.names.As.{As}
-use Rattle.plant_text.specs.declared.settings.NetworkParts.{NetworkParts}
-use Rattle.plant_text.specs.declared.settings.ElementRow.{ElementRow}
+use Rattle.pce_common.specs.plant_model.Types.{As, NetworkParts, ElementRow}
 use Rattle.plant_text.specs.Names.{same_as, insert_as}
 use Rattle.plant_text.specs.Settings.{children_of, elements_of, is_element, row_of}
 use Rattle.pce_element.specs.Seen.{Seen}

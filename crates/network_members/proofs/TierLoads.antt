@@ -1,9 +1,8 @@
 -- What is kept where an element loads a topology, and which jobs can be solved.
 use Rattle.std.proofs.Common.{◌≡◌, ℕ, Bool, true, false, cond, Option, Some, None, Result, Ok, Err, List, [], ◌∷◌, ◌++◌, map, refl, sym, ◌∙◌, ap, ap₂, subst}
 use mathlib.Core.Path.{fun_ext}
-use Rattle.dom_base.specs.declared.names.As.{As}
+use Rattle.pce_common.specs.plant_model.Types.{As, NetworkParts}
 use Rattle.te_links.specs.Rows.{Rows}
-use Rattle.plant_text.specs.declared.settings.NetworkParts.{NetworkParts}
 use Rattle.plant_text.specs.Names.{same_as, parent_as}
 use Rattle.pce_common.specs.plant_model.declared.outcome.Refused.{Refused}
 use Rattle.pce_common.specs.plant_model.declared.output.Lost.{Lost}

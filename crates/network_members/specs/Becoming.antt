@@ -1,11 +1,7 @@
 -- One element that becomes another: its settings and what it would pin stay, whatever memory there is.
 use Rattle.std.specs.Prelude.{◌≡◌, ◌≤◌, ◌+◌, ℕ, zero, suc, true, is_some, List, [], ◌∷◌, filter, length, Some, slice_set}
 use Rattle.std.specs.List.{slice_index_or}
-use Rattle.dom_base.specs.declared.names.As.{As}
-use Rattle.dom_base.specs.declared.names.Peer.{Peer}
-use Rattle.disclosure.specs.declared.class.Class.{Class}
-use Rattle.pcep_subobjects.specs.declared.hop.Hop.{Hop}
-use Rattle.pcep_messages.specs.declared.message.Message.{Message}
+use Rattle.pce_common.specs.plant_model.Types.{As, Peer, Class, Hop, Message}
 use Rattle.request_table.specs.Pending.{same_peer}
 use Rattle.pce_common.specs.plant_model.Element.{Losing, Taken, ticked}
 use Rattle.pce_common.specs.plant_model.RealWire.{wire}

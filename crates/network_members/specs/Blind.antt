@@ -1,13 +1,7 @@
 -- Jobs of members without topologies, which rows from outside answer.
 use Rattle.std.specs.Prelude.{◌≡◌, ◌⊎◌, ℕ, true, false, nat_eq, List, Option, Some, None, Result, Ok, Err, IfOk, OnOk, IfErr}
 use Rattle.std.specs.Map.{lookup}
-use Rattle.dom_base.specs.declared.names.As.{As}
-use Rattle.dom_base.specs.declared.names.NoMemory.{NoMemory}
-use Rattle.dom_base.specs.declared.border.BorderRow.{BorderRow}
-use Rattle.request_table.specs.declared.held.Held.{Held}
-use Rattle.vspt_tree.specs.declared.branch.Best.{Best}
-use Rattle.vspt_tree.specs.declared.branch.Branch.{Branch}
-use Rattle.plant_text.specs.declared.settings.NetworkParts.{NetworkParts}
+use Rattle.pce_common.specs.plant_model.Types.{As, NoMemory, BorderRow, Held, Best, Branch, NetworkParts}
 use Rattle.plant_text.specs.Names.{same_as, parent_as}
 use Rattle.pce_common.specs.plant_model.declared.outcome.Refused.{Refused}
 use Rattle.pce_common.specs.plant_model.declared.outcome.Refused.TheVariants as refused

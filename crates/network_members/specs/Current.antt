@@ -1,7 +1,6 @@
 -- The current topology of an element.
 use Rattle.std.specs.Prelude.{◌≡◌, true, false, Option, Some, None}
-use Rattle.dom_base.specs.declared.names.As.{As}
-use Rattle.plant_text.specs.declared.settings.NetworkParts.{NetworkParts}
+use Rattle.pce_common.specs.plant_model.Types.{As, NetworkParts}
 use Rattle.plant_text.specs.Settings.{is_element}
 use Rattle.pce_common.specs.plant_model.Plant.{Pin}
 

@@ -1,6 +1,6 @@
 -- What the elements are, by their fields.
 use Rattle.std.specs.Prelude.{◌≡◌, List, map}
-use Rattle.dom_base.specs.declared.names.As.{As}
+use Rattle.pce_common.specs.plant_model.Types.{As}
 use Rattle.pce_element.specs.Seen.{Seen}
 use Rattle.network_members.specs.Elements.{own_of}
 

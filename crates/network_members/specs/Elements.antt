@@ -1,12 +1,11 @@
 -- Elements by their domains.
 use Rattle.std.specs.Prelude.{◌≡◌, ◌↔◌, ◌⊎◌, ℕ, zero, suc, true, false, cond, List, [], ◌∷◌, Option, Some, None, Result, Ok, Err, IfOk, OnOk, OnErr, IsTrue, slice_set}
 use Rattle.std.specs.List.{slice_index_or}
-use Rattle.dom_base.specs.declared.names.As.{As}
+use Rattle.pce_common.specs.plant_model.Types.{As, NetworkParts}
 use Rattle.dom_base.specs.declared.addr.Addr.TheVariants.{V4}
 use Rattle.te_links.specs.Rows.{Rows}
 use Rattle.te_generations.specs.declared.generations.LoadError.{LoadError}
 use Rattle.te_generations.specs.declared.generations.LoadError.TheVariants as load_error
-use Rattle.plant_text.specs.declared.settings.NetworkParts.{NetworkParts}
 use Rattle.plant_text.specs.Names.{same_as, parent_as}
 use Rattle.plant_text.specs.Settings.{life}
 use Rattle.pce_common.specs.plant_model.declared.outcome.Refused.{Refused}

@@ -1,11 +1,7 @@
 -- The elements of a network that has just been made.
 use Rattle.std.specs.Prelude.{◌≤◌, false, List, [], ◌∷◌, Option, Some, None}
-use Rattle.dom_base.specs.declared.names.As.{As}
-use Rattle.dom_base.specs.declared.addr.Addr.{Addr}
+use Rattle.pce_common.specs.plant_model.Types.{As, Addr, Hop, NetworkParts, ElementRow}
 use Rattle.dom_base.specs.declared.addr.Addr.TheVariants.{V4}
-use Rattle.pcep_subobjects.specs.declared.hop.Hop.{Hop}
-use Rattle.plant_text.specs.declared.settings.NetworkParts.{NetworkParts}
-use Rattle.plant_text.specs.declared.settings.ElementRow.{ElementRow}
 use Rattle.plant_text.specs.Settings.{adjacencies, life}
 use Rattle.pce_common.specs.plant_model.Events.{bare}
 use Rattle.pce_common.specs.plant_model.RealWire.{wire}

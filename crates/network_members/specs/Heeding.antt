@@ -1,7 +1,6 @@
 -- What is heeded of the replies of an outside peer, by what the element there has sent on.
 use Rattle.std.specs.Prelude.{ℕ, List, map, Option, Some, None}
-use Rattle.dom_base.specs.declared.names.Peer.TheVariants.{Outside}
-use Rattle.pcep_messages.specs.declared.message.Reply.{Reply}
+use Rattle.pce_common.specs.plant_model.Types.{Reply, Outside}
 use Rattle.pce_common.specs.plant_model.Element.{sent_through}
 use Rattle.pce_common.specs.plant_model.Outside.{heeded_by}
 use Rattle.pce_common.specs.plant_model.RealWire.{wire}

@@ -1,8 +1,7 @@
 -- The answer and the deeds of an event by which an element loads a topology.
 use Rattle.std.specs.Prelude.{◌≡◌, ℕ, List, [], ◌∷◌, Result, Ok, Err}
-use Rattle.dom_base.specs.declared.names.As.{As}
+use Rattle.pce_common.specs.plant_model.Types.{As, NetworkParts}
 use Rattle.te_links.specs.Rows.{Rows}
-use Rattle.plant_text.specs.declared.settings.NetworkParts.{NetworkParts}
 use Rattle.pce_common.specs.plant_model.declared.event.Event.TheVariants as event
 use Rattle.pce_common.specs.plant_model.declared.outcome.Outcome.TheVariants.{Loaded}
 use Rattle.pce_common.specs.plant_model.declared.outcome.Refused.{Refused}

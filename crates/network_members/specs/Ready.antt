@@ -1,6 +1,6 @@
 -- Jobs of elements.
 use Rattle.std.specs.Prelude.{ℕ, List, [], ◌∷◌, ◌++◌, Option, Some, None}
-use Rattle.dom_base.specs.declared.names.As.{As}
+use Rattle.pce_common.specs.plant_model.Types.{As}
 use Rattle.pce_common.specs.plant_model.Element.{ready_numbers}
 use Rattle.pce_common.specs.plant_model.Events.{jobs_at}
 use Rattle.pce_common.specs.plant_model.Plant.{Pin, Segment}

@@ -1,6 +1,6 @@
 -- What the elements of a network and the parent above them are, by their fields.
 use Rattle.std.specs.Prelude.{ℕ, List}
-use Rattle.plant_text.specs.declared.settings.NetworkParts.{NetworkParts}
+use Rattle.pce_common.specs.plant_model.Types.{NetworkParts}
 use Rattle.pce_element.specs.Seen.{Seen}
 use Rattle.pce_parent.specs.Seen as above
 use Rattle.network_members.specs.Tiers.{Tiers, AreSet}

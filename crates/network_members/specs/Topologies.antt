@@ -1,9 +1,8 @@
 -- The elements of a network with topologies and the parent above them: the same words, of that world.
 use Rattle.std.specs.Prelude.{List}
-use Rattle.dom_base.specs.declared.names.As.{As}
+use Rattle.pce_common.specs.plant_model.Types.{As, NetworkParts}
 use Rattle.disclosure.specs.Shown.{open_of}
 use Rattle.border_costs.specs.Solutions.{Solution}
-use Rattle.plant_text.specs.declared.settings.NetworkParts.{NetworkParts}
 use Rattle.pce_common.specs.plant_model.declared.output.Lost.{Lost}
 use Rattle.pce_common.specs.plant_model.Plant.{Pin, Segment, first_pin}
 use Rattle.pce_common.specs.Membership.{Membership, Standing}

@@ -1,6 +1,6 @@
 -- The first way to a peer, and what changes there.
 use Rattle.std.proofs.Common.{◌≡◌, ◌<◌, ◌≤◌, ℕ, zero, suc, Bool, true, false, Some, None, List, [], ◌∷◌, length, get_or, set, arith, refl, ap}
-use Rattle.dom_base.specs.declared.names.Peer.{Peer}
+use Rattle.plant_model.specs.Types.{Peer}
 use Rattle.request_table.specs.Pending.{same_peer}
 use Rattle.plant_model.specs.Element.{Way, way_to, with_up, with_last}
 use Rattle.pce_common.specs.Ways.{IsFirstTo, IsNowhere}

@@ -1,10 +1,8 @@
 -- What a path of a reply tells of a branch.
 use Rattle.std.specs.Prelude.{ℕ, cond, ◌==◌, nat_le, List, [], ◌∷◌, Option, Some, None}
 use Rattle.dom_base.specs.Words.{units}
-use Rattle.dom_base.specs.declared.addr.Addr.{Addr}
-use Rattle.dom_base.specs.declared.query.Metric.{Metric}
+use Rattle.plant_model.specs.Types.{Addr, Metric, Hop}
 use Rattle.dom_base.specs.declared.limits.TheConstants.{COST_MAX}
-use Rattle.pcep_subobjects.specs.declared.hop.Hop.{Hop}
 use Rattle.pcep_subobjects.specs.declared.hop.Hop.TheVariants.{Prefix, AsNumber, Key, Other}
 use Rattle.pcep_messages.specs.Requests.{type_of_metric}
 

@@ -1,13 +1,10 @@
 -- Messages as an element and the parent take them.
 use Rattle.std.specs.Prelude.{ℕ, ◌≤◌, true, false, length, List, [], ◌∷◌, ◌++◌}
-use Rattle.dom_base.specs.declared.addr.Addr.{Addr}
+use Rattle.plant_model.specs.Types.{Addr, Object, Wanted, Message}
 use Rattle.pcep_codes.specs.declared.classes.TheConstants as classes
-use Rattle.pcep_objects.specs.declared.object.Object.{Object}
 use Rattle.pcep_objects.specs.declared.object.Body.TheVariants as bodies
-use Rattle.pcep_messages.specs.declared.message.Wanted.{Wanted}
 use Rattle.pcep_messages.specs.Requests.{type_of_metric}
 use Rattle.plant_model.specs.Writing.{bandwidth, bound, ends, lspa, needed, vspt_flag}
-use Rattle.pcep_messages.specs.declared.message.Message.{Message}
 use Rattle.pcep_messages.specs.declared.message.Message.TheVariants as messages
 
 -- at most one request or reply

@@ -1,10 +1,7 @@
 -- How many requests are pending, by their askers.
 use Rattle.std.specs.Prelude.{ℕ, ◌+◌, Bool, true, cond, List, [], ◌∷◌, length, filter}
-use Rattle.dom_base.specs.declared.names.As.{As}
-use Rattle.dom_base.specs.declared.names.Peer.{Peer}
-use Rattle.pcep_messages.specs.declared.message.Message.{Message}
+use Rattle.plant_model.specs.Types.{As, Peer, Message, Held}
 use Rattle.pcep_messages.specs.declared.message.Message.TheVariants as messages
-use Rattle.request_table.specs.declared.held.Held.{Held}
 use Rattle.request_table.specs.Pending.{same_peer}
 use Rattle.plant_text.specs.Names.{same_as, parent_as}
 use Rattle.pce_common.specs.Membership.{Membership}

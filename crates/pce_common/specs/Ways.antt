@@ -1,8 +1,6 @@
 -- Ways found by their peers.
 use Rattle.std.specs.Prelude.{◌≡◌, ℕ, zero, suc, true, false, List, [], ◌∷◌}
-use Rattle.dom_base.specs.declared.names.As.{As}
-use Rattle.dom_base.specs.declared.names.Peer.{Peer}
-use Rattle.dom_base.specs.declared.names.Peer.TheVariants.{Inner}
+use Rattle.plant_model.specs.Types.{As, Peer, Inner}
 use Rattle.request_table.specs.Pending.{same_peer}
 use Rattle.plant_model.specs.Element.{Way}
 

@@ -4,19 +4,10 @@ use Rattle.std.specs.Prelude.{All, Contains, IfSome}
 use Rattle.std.specs.Map.{lookup}
 use Rattle.std.proofs.lemmas.Bool.{le-ltb}
 use Rattle.std.proofs.lemmas.List.Elements.{All-nil, All-cons}
-use Rattle.dom_base.specs.declared.addr.Addr.{Addr}
-use Rattle.dom_base.specs.declared.query.Metric.{Metric}
-use Rattle.pcep_subobjects.specs.declared.hop.Hop.{Hop}
-use Rattle.pcep_messages.specs.declared.message.Message.{Message}
+use Rattle.pce_common.specs.plant_model.Types.{Addr, Metric, Hop, Message, Path, Held, Best, Branch, Ask, Down}
 use Rattle.pcep_messages.specs.declared.message.Answer.TheVariants.{Paths}
-use Rattle.pcep_messages.specs.declared.message.Path.{Path}
-use Rattle.request_table.specs.declared.held.Held.{Held}
 use Rattle.path_keys.specs.Keys.{Keys, live_at, live_most, number_after}
-use Rattle.vspt_tree.specs.declared.branch.Best.{Best}
-use Rattle.vspt_tree.specs.declared.branch.Branch.{Branch}
 use Rattle.vspt_tree.specs.Branches.{AreBranchesOf, HasBranchAt, IsBranchOf}
-use Rattle.border_costs.specs.declared.job.Ask.{Ask}
-use Rattle.border_costs.specs.declared.job.Down.{Down}
 use Rattle.border_costs.specs.Solutions.{AreRows, Solution}
 use Rattle.border_costs.proofs.Heads.{heads_have_branches}
 use Rattle.pce_common.proofs.plant_model.Meeting.{branch_meets}

@@ -6,19 +6,12 @@ use Rattle.std.proofs.lemmas.Bool.{cases_lt, lt-ltb, le-ltb}
 use Rattle.std.proofs.lemmas.List.Elements.{All-nil, All-cons, Contains-append_left, Contains-push, Contains-push_cases}
 use Rattle.std.proofs.lemmas.List.Quantifiers.{all_pairs_push}
 use Rattle.dom_base.specs.AddrOrder.{rank}
-use Rattle.dom_base.specs.declared.addr.Addr.{Addr}
-use Rattle.dom_base.specs.declared.names.As.{As}
-use Rattle.dom_base.specs.declared.border.BorderRow.{BorderRow}
-use Rattle.dom_base.specs.declared.query.Label.{Label}
+use Rattle.pce_common.specs.plant_model.Types.{Addr, As, BorderRow, Label, Best, Branch, Down, Target}
 use Rattle.walk_laws.specs.Borders.{Beyond, IsDown}
 use Rattle.walk_laws.specs.TableJoins.{RowJoins, RowEnds}
 use Rattle.vspt_tree.specs.Branches.{HasBranchAt}
-use Rattle.vspt_tree.specs.declared.branch.Best.{Best}
-use Rattle.vspt_tree.specs.declared.branch.Branch.{Branch}
 use Rattle.border_costs.specs.Asks.{HasNoDown, beyond}
 use Rattle.border_costs.specs.Tables.{IsRowBefore}
-use Rattle.border_costs.specs.declared.job.Down.{Down}
-use Rattle.border_costs.specs.declared.job.Target.{Target}
 use Rattle.border_costs.specs.declared.job.Target.TheVariants.{Node, Next}
 use Rattle.border_costs.proofs.Downs.{down_unique}
 use Rattle.pce_common.specs.plant_model.Branches.{downs}

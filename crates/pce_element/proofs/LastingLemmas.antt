@@ -3,9 +3,7 @@ use Rattle.std.proofs.Common.{◌≡◌, ◌≢◌, ◌⊎◌, ◌∙◌, ◌+�
 use Rattle.std.specs.Prelude.{filter}
 use Rattle.std.specs.Map.{lookup, remove_entry}
 use Rattle.std.proofs.lemmas.Bool.{cases_Bool, eqb-true, ne_eqb}
-use Rattle.dom_base.specs.declared.names.As.{As}
-use Rattle.dom_base.specs.declared.names.Peer.{Peer}
-use Rattle.request_table.specs.declared.held.Held.{Held}
+use Rattle.pce_common.specs.plant_model.Types.{As, Peer, Held, Branch}
 use Rattle.request_table.specs.Pending.{Pending, ArePending, NumbersRise, item_of, opened_of, closed_of, key_of}
 use Rattle.request_table.specs.Lends.{with_item}
 use Rattle.request_table.proofs.PendingLemmas.{NumbersRise-last, NumbersRise-remove}
@@ -19,7 +17,6 @@ use Rattle.pce_element.specs.Items.{new_item}
 use Rattle.pce_element.specs.Jobs.{Work, work_at, work_for}
 use Rattle.pce_element.specs.Lasting.{LastsAs, RequestsLast, ReadyLast, JobsLast, LastsOn, LastsStill, LastsWithRequests}
 use Rattle.pce_element.specs.Seen.{Seen, SameButRoom, with_element, with_losing}
-use Rattle.vspt_tree.specs.declared.branch.Branch.{Branch}
 
 -- ---- one request
 

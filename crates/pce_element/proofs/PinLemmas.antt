@@ -10,8 +10,7 @@ use Rattle.te_generations.specs.Shelf.{Generation, Shelf, IsShelf, pins_among, p
 use Rattle.te_generations.proofs.ShelfLemmas.{test_false, test_true}
 use Rattle.te_generations.proofs.RunLemmas.{below_bound, load_keeps, release_keeps}
 use Rattle.te_generations.proofs.CountLemmas.{all_pins-loaded, pins_of-loaded, pins_of-pinned, pins_of-released}
-use Rattle.request_table.specs.declared.held.Held.{Held}
-use Rattle.dom_base.specs.declared.names.Peer.{Peer}
+use Rattle.pce_common.specs.plant_model.Types.{Held, Peer}
 use Rattle.request_table.specs.Pending.{Pending, is_full, key_of, opened_of}
 use Rattle.request_table.specs.Lends.{with_item}
 use Rattle.pce_common.specs.plant_model.Element.{Item, Row}

@@ -1,11 +1,9 @@
 -- A request that becomes ready.
 use Rattle.std.proofs.Common.{◌≡◌, ◌∙◌, ℕ, true, false, Option, Some, None, List, length, refl, sym, ap, subst, option_map}
 use Rattle.std.specs.Prelude.{Contains}
-use Rattle.dom_base.specs.declared.names.Peer.{Peer}
-use Rattle.request_table.specs.declared.held.Held.{Held}
+use Rattle.pce_common.specs.plant_model.Types.{Peer, Held, Branch}
 use Rattle.request_table.specs.Pending.{Pending, NumbersRise, item_of}
 use Rattle.request_table.specs.Lends.{written_of}
-use Rattle.vspt_tree.specs.declared.branch.Branch.{Branch}
 use Rattle.pce_common.specs.plant_model.Element.{Element, Item, Row, Stage, Waits, Ready, at_stage, is_ready, waits_for}
 use Rattle.pce_common.specs.plant_model.Taking.{staged}
 use Rattle.pce_element.specs.Pinned.{pins_in}

@@ -3,8 +3,7 @@ use Rattle.std.proofs.Common.{◌≡◌, ◌∙◌, ◌<◌, ◌+◌, ℕ, Bool,
 use Rattle.std.specs.Prelude.{filter, slice_get}
 use Rattle.std.specs.Map.{remove_entry}
 use Rattle.std.proofs.lemmas.Bool.{cases_Bool, eqb-true, eq-eqb, ne_eqb}
-use Rattle.dom_base.specs.declared.names.Peer.{Peer}
-use Rattle.request_table.specs.declared.held.RequestKey.{RequestKey}
+use Rattle.pce_common.specs.plant_model.Types.{Peer, RequestKey}
 use Rattle.request_table.specs.Pending.{Pending, NumbersRise, AreNamedOnce, ArePending, same_key, key_of, number_among, number_of, closed_of}
 use Rattle.request_table.proofs.KeyLemmas.{same_key_is}
 use Rattle.request_table.proofs.PendingLemmas.{NumbersRise-remove}

@@ -1,15 +1,9 @@
 -- The answer to a request that can be solved, by the best ways that were found.
 use Rattle.std.specs.Prelude.{◌≡◌, ℕ, Bool, List, [], ◌∷◌, ◌++◌, map}
-use Rattle.dom_base.specs.declared.addr.Addr.{Addr}
-use Rattle.dom_base.specs.declared.query.Metric.{Metric}
-use Rattle.pcep_subobjects.specs.declared.hop.Hop.{Hop}
-use Rattle.pcep_messages.specs.declared.message.Path.{Path}
-use Rattle.pcep_messages.specs.declared.message.Answer.{Answer}
+use Rattle.pce_common.specs.plant_model.Types.{Addr, Metric, Hop, Path, Answer, Best, Branch}
 use Rattle.pcep_messages.specs.declared.message.Answer.TheVariants.{Paths}
 use Rattle.path_keys.specs.Keys.{number_after}
 use Rattle.disclosure.specs.Shown.{closed_of}
-use Rattle.vspt_tree.specs.declared.branch.Best.{Best}
-use Rattle.vspt_tree.specs.declared.branch.Branch.{Branch}
 use Rattle.pce_common.specs.plant_model.Branches.{end_of, onward, open_branch, path_of}
 use Rattle.pce_common.specs.plant_model.Element.{Row, Taken, ended}
 use Rattle.pce_common.specs.plant_model.RealWire.{wire}

@@ -1,12 +1,8 @@
 -- A job of an element without topologies, which is solved by given rows.
 use Rattle.std.specs.Prelude.{◌≡◌, ◌⊎◌, ℕ, true, nat_eq, List, length, Option, Some, None}
 use Rattle.std.specs.Map.{lookup}
-use Rattle.dom_base.specs.declared.border.BorderRow.{BorderRow}
-use Rattle.request_table.specs.declared.held.Held.{Held}
+use Rattle.pce_common.specs.plant_model.Types.{BorderRow, Held, Best, Branch, NetworkParts}
 use Rattle.request_table.specs.Pending.{item_of}
-use Rattle.vspt_tree.specs.declared.branch.Best.{Best}
-use Rattle.vspt_tree.specs.declared.branch.Branch.{Branch}
-use Rattle.plant_text.specs.declared.settings.NetworkParts.{NetworkParts}
 use Rattle.pce_common.specs.plant_model.Blind.{Joined, Nothing}
 use Rattle.pce_common.specs.plant_model.Element.{Item, Ready, Taken, is_ready}
 use Rattle.pce_common.specs.plant_model.RealWire.{wire}

@@ -1,10 +1,9 @@
 -- What a planned change makes of an element, and when it may be made.
 use Rattle.std.specs.Prelude.{◌≡◌, ◌≤◌, ◌+◌, ℕ, false, List, [], ◌∷◌, length, Option, Some, None}
-use Rattle.dom_base.specs.declared.names.Peer.{Peer}
+use Rattle.pce_common.specs.plant_model.Types.{Peer, Branch}
 use Rattle.request_table.specs.Pending.{Pending, number_of, item_of, is_full, opened_of, closed_of}
 use Rattle.request_table.specs.Lends.{written_of}
 use Rattle.path_keys.specs.Keys.{Keys, live_most, live_at, issue_of}
-use Rattle.vspt_tree.specs.declared.branch.Branch.{Branch}
 use Rattle.pce_common.specs.plant_model.Element as element
 use Rattle.pce_common.specs.plant_model.Element.{Element, Item, Way, Taken, at_stage, ended, is_ready, with_last}
 use Rattle.pce_element.specs.declared.accepted.Stage.{Stage}

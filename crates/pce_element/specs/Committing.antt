@@ -1,9 +1,7 @@
 -- A solved job that is answered.
 use Rattle.std.specs.Prelude.{◌≡◌, ℕ, nat_eq, List, length, Option, Some, None, IfSome}
 use Rattle.std.specs.Map.{lookup}
-use Rattle.request_table.specs.declared.held.Held.{Held}
-use Rattle.vspt_tree.specs.declared.branch.Best.{Best}
-use Rattle.vspt_tree.specs.declared.branch.Branch.{Branch}
+use Rattle.pce_common.specs.plant_model.Types.{Held, Best, Branch}
 use Rattle.border_costs.specs.Solutions.{Solution}
 use Rattle.pce_common.specs.plant_model.Element.{Item, Row, Stage, Taken, Waits, Ready}
 use Rattle.pce_common.specs.plant_model.Plant.{Pin, Segment}

@@ -1,6 +1,6 @@
 -- Requests that end one after the other.
 use Rattle.std.specs.Prelude.{ℕ, ◌++◌}
-use Rattle.dom_base.specs.declared.names.Peer.{Peer}
+use Rattle.pce_common.specs.plant_model.Types.{Peer}
 use Rattle.pce_common.specs.plant_model.Element.{Element, Taken, waiting}
 use Rattle.pce_common.specs.plant_model.Taking.{take_failure}
 use Rattle.pce_element.specs.Changes.{all_ended}

@@ -1,6 +1,6 @@
 -- Accepted requests: how one begins, and how far it is.
 use Rattle.std.specs.Prelude.{List, Option, Some, None}
-use Rattle.vspt_tree.specs.declared.branch.Branch.{Branch}
+use Rattle.pce_common.specs.plant_model.Types.{Branch}
 use Rattle.pce_common.specs.plant_model.Element as element
 use Rattle.pce_common.specs.plant_model.Element.{Item}
 use Rattle.pce_element.specs.declared.accepted.Stage.{Stage}

@@ -1,13 +1,9 @@
 -- The job of a request that is ready.
 use Rattle.std.specs.Prelude.{ℕ, List, map, filter, Option, Some, None}
 use Rattle.std.specs.Arc.{arc_value}
-use Rattle.dom_base.specs.declared.addr.Addr.{Addr}
-use Rattle.dom_base.specs.declared.names.As.{As}
-use Rattle.te_links.specs.declared.rows.Entry.{Entry}
+use Rattle.pce_common.specs.plant_model.Types.{Addr, As, Entry, Ask, Job}
 use Rattle.te_links.specs.Rows.{Rows}
 use Rattle.request_table.specs.Pending.{item_of}
-use Rattle.border_costs.specs.declared.job.Ask.{Ask}
-use Rattle.border_costs.specs.declared.job.Job.{Job}
 use Rattle.plant_text.specs.Names.{same_as}
 use Rattle.pce_common.specs.plant_model.Element.{Item, Stage, Waits, Ready}
 use Rattle.pce_common.specs.plant_model.Jobs.{ask_of}

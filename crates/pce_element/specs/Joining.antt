@@ -1,11 +1,7 @@
 -- Rows of a border table, one after the other, joined with what the next domain told.
 use Rattle.std.specs.Prelude.{◌≡◌, ◌≢◌, ◌⊎◌, ℕ, cond, nat_lt, List, [], ◌∷◌, ◌++◌, Option, Some, None}
-use Rattle.dom_base.specs.declared.addr.Addr.{Addr}
-use Rattle.dom_base.specs.declared.border.BorderRow.{BorderRow}
-use Rattle.vspt_tree.specs.declared.branch.Best.{Best}
-use Rattle.border_costs.specs.declared.job.Target.{Target}
+use Rattle.pce_common.specs.plant_model.Types.{Addr, BorderRow, Best, Target, Down}
 use Rattle.border_costs.specs.declared.job.Target.TheVariants.{Node, Next}
-use Rattle.border_costs.specs.declared.job.Down.{Down}
 use Rattle.pce_common.specs.plant_model.Jobs.{JoinsBy}
 
 -- a row by itself joins to nothing

@@ -1,6 +1,6 @@
 -- What becomes of the requests when a session goes down.
 use Rattle.std.specs.Prelude.{◌≡◌, ℕ, suc, cond, List, [], ◌∷◌, ◌++◌, take, drop, Some, slice_get}
-use Rattle.dom_base.specs.declared.names.Peer.{Peer}
+use Rattle.pce_common.specs.plant_model.Types.{Peer}
 use Rattle.pce_common.specs.plant_model.Element.{Row, stays, is_lost, lost_of}
 use Rattle.pce_element.specs.Pinned.{Pinned}
 use Rattle.pce_element.specs.declared.pinned.Leaves.{Leaves}

@@ -1,6 +1,6 @@
 -- An element as its callers see it.
 use Rattle.std.specs.Prelude.{◌≡◌, ℕ, List, [], ◌++◌, map}
-use Rattle.dom_base.specs.declared.names.As.{As}
+use Rattle.pce_common.specs.plant_model.Types.{As}
 use Rattle.pce_common.specs.plant_model.declared.route.Route.{Route}
 use Rattle.pce_common.specs.plant_model.Element.{Element, ElementSettings, Losing}
 use Rattle.pce_common.specs.plant_model.Settings.{outer_way}

@@ -2,11 +2,9 @@
 use Rattle.std.proofs.Common.{◌≡◌, ◌<◌, ◌+◌, ℕ, suc, Bool, true, cond, Some, List, [], ◌∷◌, ◌++◌, length, take, drop, arith, refl, sym, ◌∙◌, ap, append_assoc}
 use Rattle.std.specs.Prelude.{slice_get}
 use Rattle.std.specs.List.{remove}
-use Rattle.dom_base.specs.declared.names.Peer.{Peer}
-use Rattle.vspt_tree.specs.declared.branch.Branch.{Branch}
+use Rattle.pce_common.specs.plant_model.Types.{Peer, Branch, Wanted}
 use Rattle.pce_common.specs.plant_model.declared.upper.ChildRow.{ChildRow}
 use Rattle.pce_common.specs.plant_model.Names.{same_id}
-use Rattle.pcep_messages.specs.declared.message.Wanted.{Wanted}
 use Rattle.pce_parent.specs.Changes.{with_answer}
 use Rattle.pce_common.specs.plant_model.Parent.{Asking, Wait, among, rows_at, rows_for, without}
 use Rattle.pce_parent.specs.Answered.{IsAnsweredAt}

@@ -4,7 +4,7 @@ use Rattle.std.specs.Prelude.{slice_get}
 use Rattle.std.proofs.lemmas.Bool.{cases_lt}
 use Rattle.std.proofs.lemmas.Option.{same_Some}
 use Rattle.std.proofs.lemmas.List.Elements.{All-push, Contains-push, Contains-append_left}
-use Rattle.dom_base.specs.declared.border.ParentLink.{ParentLink}
+use Rattle.pce_common.specs.plant_model.Types.{ParentLink}
 use Rattle.pce_common.specs.plant_model.declared.upper.ChildRow.{ChildRow}
 use Rattle.pce_common.specs.plant_model.declared.upper.BorderJob.{BorderJob}
 use Rattle.pce_parent.specs.declared.arcs.Arc.{Arc}

@@ -6,9 +6,8 @@ use Rattle.std.proofs.lemmas.Bool.{cases_lt}
 use Rattle.std.proofs.lemmas.List.Elements.{All-weaker}
 use Rattle.std.proofs.lemmas.Option.{slice_get_within}
 use Rattle.dom_base.specs.AddrOrder.{rank}
-use Rattle.dom_base.specs.declared.names.As.{As}
+use Rattle.pce_common.specs.plant_model.Types.{As, Hop}
 use Rattle.dom_base.specs.Admission.{weight}
-use Rattle.pcep_subobjects.specs.declared.hop.Hop.{Hop}
 use Rattle.pcep_subobjects.specs.Hops.{strict_hop}
 use Rattle.pce_common.specs.plant_model.declared.upper.ChildRow.{ChildRow}
 use Rattle.pce_common.specs.plant_model.declared.upper.BorderJob.{BorderJob}

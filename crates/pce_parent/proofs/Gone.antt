@@ -4,7 +4,7 @@ use Rattle.std.specs.Prelude.{slice_get, filter}
 use Rattle.std.specs.Map.{remove_entry}
 use Rattle.std.specs.Option.{option_map}
 use Rattle.std.proofs.lemmas.Bool.{cases_Bool, eqb-true, eq-eqb, ne_eqb}
-use Rattle.dom_base.specs.declared.names.Peer.{Peer}
+use Rattle.pce_common.specs.plant_model.Types.{Peer}
 use Rattle.request_table.specs.Pending.{Pending, ArePending, NumbersRise, closed_of, number_of, number_among, key_of, same_key}
 use Rattle.pce_common.specs.plant_model.Parent.{Asking, AskingRow, among, waiting}
 use Rattle.pce_parent.specs.declared.sought.Sought.TheVariants.{Asked, Awaited}

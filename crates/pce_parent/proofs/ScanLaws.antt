@@ -1,7 +1,7 @@
 -- Waits looked through one by one.
 use Rattle.std.proofs.Common.{◌≡◌, ◌+◌, ℕ, Bool, true, false, cond, Some, Result, Ok, Err, List, drop, ◌∙◌, ap}
 use Rattle.std.specs.Prelude.{slice_get, OnOk}
-use Rattle.dom_base.specs.declared.names.Peer.{Peer}
+use Rattle.pce_common.specs.plant_model.Types.{Peer}
 use Rattle.request_table.specs.Pending.{same_peer}
 use Rattle.pce_common.specs.plant_model.Names.{same_id}
 use Rattle.pce_common.specs.plant_model.Parent.{Wait, among, any_on}

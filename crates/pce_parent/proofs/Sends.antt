@@ -2,9 +2,7 @@
 use Rattle.std.proofs.Common.{◌≡◌, ◌+◌, ℕ, Bool, true, cond, Some, List, [], ◌∷◌, ◌++◌, length, drop, arith, inl, inr, refl, sym, ◌∙◌, ap, append_assoc}
 use Rattle.std.specs.Prelude.{slice_get}
 use Rattle.std.proofs.lemmas.Bool.{cases_Bool}
-use Rattle.dom_base.specs.declared.names.Peer.{Peer}
-use Rattle.dom_base.specs.declared.names.Peer.TheVariants.{Inner}
-use Rattle.pcep_messages.specs.declared.message.Wanted.{Wanted}
+use Rattle.pce_common.specs.plant_model.Types.{Peer, Inner, Wanted}
 use Rattle.pce_common.specs.plant_model.declared.output.Output.{Output}
 use Rattle.pce_common.specs.plant_model.Names.{same_id}
 use Rattle.pce_common.specs.plant_model.Element.{Way, after_id, pass_over, way_to, with_last}

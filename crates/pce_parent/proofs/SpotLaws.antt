@@ -1,8 +1,7 @@
 -- Spots that are the same, and the one vertex of a spot.
 use Rattle.std.proofs.Common.{◌≡◌, ◌&&◌, ◌==◌, ℕ, Bool, true, false, nat_eq, arith, refl, sym, ◌∙◌, ap}
 use Rattle.std.proofs.lemmas.Grind.{common_steps}
-use Rattle.dom_base.specs.declared.names.As.{As}
-use Rattle.dom_base.specs.declared.addr.Addr.{Addr}
+use Rattle.pce_common.specs.plant_model.Types.{As, Addr}
 use Rattle.dom_base.specs.declared.addr.Addr.TheVariants.{V4, V6}
 use Rattle.pce_common.specs.plant_model.BorderGraph.{Vertex, Enter, Leave}
 use Rattle.pce_parent.specs.declared.spot.Spot.{Spot}

@@ -1,7 +1,6 @@
 -- What notices and errors make of requests, one by one.
 use Rattle.std.proofs.Common.{◌≡◌, ℕ, Option, Some, None, List, [], ◌∷◌, ◌++◌, sym, ◌∙◌, ap, append-nil, option_map}
-use Rattle.dom_base.specs.declared.names.Peer.{Peer}
-use Rattle.pcep_messages.specs.declared.message.Message.{Message}
+use Rattle.pce_common.specs.plant_model.Types.{Peer, Message}
 use Rattle.request_table.specs.Pending.{Pending, ArePending, closed_of, number_of}
 use Rattle.pce_common.specs.plant_model.declared.output.Output.{Output}
 use Rattle.pce_common.specs.plant_model.Writing.{busy}

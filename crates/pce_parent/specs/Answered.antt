@@ -1,7 +1,6 @@
 -- The wait to which a reply is the answer.
 use Rattle.std.specs.Prelude.{◌≡◌, ◌<◌, ◌++◌, ℕ, suc, true, List, length, take, drop, Some, slice_get}
-use Rattle.dom_base.specs.declared.names.Peer.{Peer}
-use Rattle.vspt_tree.specs.declared.branch.Branch.{Branch}
+use Rattle.pce_common.specs.plant_model.Types.{Peer, Branch}
 use Rattle.pce_common.specs.plant_model.Parent.{Wait, among, rows_at, rows_for, without}
 
 -- this one is answered: the branches of the answer are rows from its child to its target

@@ -1,9 +1,6 @@
 -- The edges of the border graph between the places of vertices.
 use Rattle.std.specs.Prelude.{◌≡◌, ◌<◌, ◌≤◌, ℕ, false, List, All, Contains, Some, slice_get}
-use Rattle.dom_base.specs.declared.names.As.{As}
-use Rattle.dom_base.specs.declared.border.ParentLink.{ParentLink}
-use Rattle.dom_base.specs.declared.query.Query.{Query}
-use Rattle.dom_base.specs.declared.query.Exclusion.{Exclusion}
+use Rattle.pce_common.specs.plant_model.Types.{As, ParentLink, Query, Exclusion}
 use Rattle.dom_base.specs.declared.query.Excluded.TheVariants.{AsNumber}
 use Rattle.dom_base.specs.declared.limits.TheConstants.{COST_MAX}
 use Rattle.dom_base.specs.Admission.{weight, Allows}

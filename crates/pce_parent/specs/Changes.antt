@@ -1,6 +1,6 @@
 -- What a planned change makes of the parent, and when it may be made.
 use Rattle.std.specs.Prelude.{◌≡◌, ◌≤◌, ◌++◌, ℕ, true, false, List, [], ◌∷◌, Option, Some, None}
-use Rattle.dom_base.specs.declared.names.Peer.{Peer}
+use Rattle.pce_common.specs.plant_model.Types.{Peer}
 use Rattle.request_table.specs.Pending.{Pending, number_of, item_of, is_full, opened_of, closed_of}
 use Rattle.request_table.specs.Lends.{written_of}
 use Rattle.pce_common.specs.plant_model.declared.upper.ChildRow.{ChildRow}

@@ -1,8 +1,7 @@
 -- The answer to the request of a solved job.
 use Rattle.std.specs.Prelude.{◌≡◌, ℕ, true, nat_eq, List, [], ◌∷◌, Option, Some, None}
 use Rattle.std.specs.Map.{lookup}
-use Rattle.dom_base.specs.declared.query.Metric.{Metric}
-use Rattle.pcep_messages.specs.declared.message.Answer.{Answer}
+use Rattle.pce_common.specs.plant_model.Types.{Metric, Answer}
 use Rattle.pcep_messages.specs.declared.message.Answer.TheVariants.{Paths}
 use Rattle.pce_common.specs.plant_model.RealWire.{wire}
 use Rattle.pce_common.specs.plant_model.declared.output.Output.{Output}

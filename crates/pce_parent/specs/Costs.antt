@@ -1,6 +1,6 @@
 -- Costs by the places of vertices, and their relaxation over edges.
 use Rattle.std.specs.Prelude.{◌≡◌, ◌<◌, ◌≤◌, ◌+◌, ◌^◌, ℕ, cond, List, length, Option, Some, None, slice_index_or, sum_by}
-use Rattle.dom_base.specs.declared.addr.Addr.{Addr}
+use Rattle.pce_common.specs.plant_model.Types.{Addr}
 use Rattle.dom_base.specs.declared.limits.TheConstants.{COST_MAX}
 use Rattle.pce_common.specs.plant_model.declared.upper.BorderJob.{BorderJob}
 use Rattle.pce_common.specs.plant_model.BorderGraph.{Vertex, Leave, Edge, IsEdge, IsEnd, BorderWalk}

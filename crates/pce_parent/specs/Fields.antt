@@ -2,7 +2,7 @@
 use Rattle.std.specs.Prelude.{◌≡◌, ℕ, List}
 use Rattle.std.specs.Borrow.{Bor}
 use Rattle.std.specs.Option.{option_map}
-use Rattle.pcep_subobjects.specs.declared.hop.Hop.{Hop}
+use Rattle.pce_common.specs.plant_model.Types.{Hop}
 use Rattle.pce_common.specs.plant_model.BorderGraph.{Found, SolvesBorder}
 use Rattle.pce_parent.specs.Solution.{BorderSolution}
 use Rattle.pce_parent.specs.declared.solved.Walk.{Walk}

@@ -1,7 +1,7 @@
 -- What the parent is, by its fields.
 use Rattle.std.specs.Prelude.{◌≡◌, ◌<◌, ◌+◌, ◌-◌, ◌≤◌, min, length, All, AllPairs}
 use Rattle.std.specs.VecDeque.{deque_capacity, deque_len}
-use Rattle.dom_base.specs.declared.names.As.{As}
+use Rattle.pce_common.specs.plant_model.Types.{As}
 use Rattle.pce_common.specs.plant_model.declared.TheConstants.{PARENT_PENDING_MAX}
 use Rattle.pce_common.specs.plant_model.Parent.{Parent, Family}
 use Rattle.pce_parent.specs.Seen.{Seen}

@@ -1,6 +1,6 @@
 -- The pending requests of the parent, by their places.
 use Rattle.std.specs.Prelude.{◌≡◌, ◌+◌, ℕ, suc, cond, List, [], ◌∷◌, ◌++◌, take, drop, map, Some, slice_get}
-use Rattle.dom_base.specs.declared.names.Peer.{Peer}
+use Rattle.pce_common.specs.plant_model.Types.{Peer}
 use Rattle.request_table.specs.Pending.{Pending}
 use Rattle.pce_common.specs.plant_model.declared.output.Lost.{Lost}
 use Rattle.pce_common.specs.plant_model.Parent.{Asking, AskingRow, stays, is_lost, lost_of}

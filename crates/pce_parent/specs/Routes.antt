@@ -1,9 +1,7 @@
 -- Costs that are least, and the chosen walk over them.
 use Rattle.std.specs.Prelude.{◌≡◌, ◌<◌, ◌≤◌, ℕ, List, ◌++◌, length, All, Option, Some}
-use Rattle.dom_base.specs.declared.names.As.{As}
-use Rattle.dom_base.specs.declared.addr.Addr.{Addr}
+use Rattle.pce_common.specs.plant_model.Types.{As, Addr, Hop}
 use Rattle.dom_base.specs.AddrOrder.{rank}
-use Rattle.pcep_subobjects.specs.declared.hop.Hop.{Hop}
 use Rattle.pce_common.specs.plant_model.declared.upper.BorderJob.{BorderJob}
 use Rattle.pce_common.specs.plant_model.BorderGraph.{Vertex, Enter, Leave, Edge, IsTightEdge, Shows}
 use Rattle.pce_parent.specs.declared.arcs.Arc.{Arc}

@@ -1,8 +1,7 @@
 -- The parent as its callers see it.
 use Rattle.std.specs.Prelude.{◌≡◌, ℕ, cond, nat_eq, [], map, Option, Some, None}
 use Rattle.std.specs.Map.{lookup}
-use Rattle.dom_base.specs.declared.addr.Addr.{Addr}
-use Rattle.request_table.specs.declared.held.Held.{Held}
+use Rattle.pce_common.specs.plant_model.Types.{Addr, Held}
 use Rattle.pce_common.specs.plant_model.declared.TheConstants.{PARENT_PENDING_MAX}
 use Rattle.pce_common.specs.plant_model.declared.upper.BorderJob.{BorderJob}
 use Rattle.pce_common.specs.plant_model.RealWire.{wire}

@@ -1,9 +1,6 @@
 -- Requests to the children, one by one.
 use Rattle.std.specs.Prelude.{◌≡◌, ◌++◌, ℕ, List, [], ◌∷◌}
-use Rattle.dom_base.specs.declared.names.As.{As}
-use Rattle.dom_base.specs.declared.addr.Addr.{Addr}
-use Rattle.dom_base.specs.declared.names.Peer.TheVariants.{Inner}
-use Rattle.pcep_messages.specs.declared.message.Wanted.{Wanted}
+use Rattle.pce_common.specs.plant_model.Types.{As, Addr, Wanted, Inner}
 use Rattle.pce_common.specs.plant_model.declared.output.Output.{Output}
 use Rattle.pce_common.specs.plant_model.Writing.{request_message}
 use Rattle.pce_common.specs.plant_model.Element.{Way, with_last}

@@ -1,7 +1,7 @@
 -- What a solved job of a parent is.
 use Rattle.std.specs.Prelude.{Option}
 use Rattle.te_links.specs.Rows.{IsMetric}
-use Rattle.dom_base.specs.declared.border.ParentLink.{ParentLink}
+use Rattle.pce_common.specs.plant_model.Types.{ParentLink}
 use Rattle.pce_common.specs.plant_model.declared.upper.BorderJob.{BorderJob}
 use Rattle.pce_common.specs.plant_model.BorderGraph.{Found}
 

@@ -2,9 +2,7 @@
 use Rattle.std.proofs.Common.{◌≡◌, ℕ, ◌≤◌, ◌⊎◌, inl, inr, Bool, true, false, cond, List, length, Some, None, refl, sym, subst}
 use Rattle.std.specs.declared.option.Option.{Option}
 use Rattle.std.specs.Option.{option_map}
-use Rattle.dom_base.specs.declared.addr.Addr.{Addr}
-use Rattle.pcep_objects.specs.declared.object.Object.{Object}
-use Rattle.pcep_messages.specs.declared.message.Wish.{Wish}
+use Rattle.client_laws.specs.plant_model.Types.{Addr, Object, Wish}
 use Rattle.pcep_messages.specs.declared.message.Wish.TheVariants as wishes
 use Rattle.pcep_messages.specs.Said.{rp_of, iro_of, asks_key, key_of, end_points_of}
 use Rattle.pcep_messages.specs.Requests.{sequence_of, wanted_of, wish_of, without_bit}

@@ -5,9 +5,8 @@ use Rattle.std.proofs.lemmas.List.{append-nil}
 use Rattle.std.proofs.lemmas.List.Elements.{All-nil, All-append}
 use Rattle.std.proofs.lemmas.List.FromFn.{length-range_with_len}
 use Rattle.dom_edge.specs.Stores.{Files, file_named}
-use Rattle.plant_text.specs.declared.line.LineEvent.{LineEvent}
+use Rattle.client_laws.specs.plant_model.Types.{LineEvent, NetworkParts}
 use Rattle.plant_text.specs.declared.line.LineEvent.TheVariants as line
-use Rattle.plant_text.specs.declared.settings.NetworkParts.{NetworkParts}
 use Rattle.client_laws.specs.plant_model.Events.{Answered}
 use Rattle.client_laws.specs.plant_play.Playing.{Cue, PlayedNetwork}
 use Rattle.client_laws.specs.plant_play.Scripts.{AllPlayed}

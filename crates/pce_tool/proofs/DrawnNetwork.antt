@@ -3,9 +3,7 @@ use Rattle.std.proofs.Common.{◌≡◌, ◌≢◌, ◌<◌, ◌≤◌, ℕ, ◌
 use Rattle.std.specs.List.{AllPairs}
 use Rattle.std.proofs.lemmas.List.Elements.{All-nil, All-cons}
 use Rattle.std.proofs.lemmas.List.Kept.{AllPairs-cons}
-use Rattle.dom_base.specs.declared.names.As.{As}
-use Rattle.plant_text.specs.declared.settings.ElementRow.{ElementRow}
-use Rattle.plant_text.specs.declared.settings.PeerRow.{PeerRow}
+use Rattle.client_laws.specs.plant_model.Types.{As, ElementRow, PeerRow}
 use Rattle.plant_text.specs.Settings.{is_element}
 use Rattle.client_laws.specs.plant_model.Laws.{IsElement, IsNetwork, IsParentLink, LeadApart, LeadsOut}
 use Rattle.client_laws.proofs.run_laws.TextLemmas.ModelledNetworks.{with_client}

@@ -7,7 +7,7 @@ use Rattle.te_links.specs.Rows.{Rows}
 use Rattle.te_links.specs.declared.fault.TopoFault.{TopoFault}
 use Rattle.te_text.specs.Reads.{IsFaulty}
 use Rattle.network_files.specs.Topologies.{HasTopology, topology_max}
-use Rattle.plant_text.specs.declared.fault.NetFault.{NetFault}
+use Rattle.client_laws.specs.plant_model.Types.{NetFault}
 use Rattle.te_text.specs.declared.error.TextError.TheVariants.{At}
 use Rattle.path_certificate.specs.Text.{certificate_in}
 use Rattle.diverse_pairs.specs.Text.{pair_in}

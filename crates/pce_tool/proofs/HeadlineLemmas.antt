@@ -5,12 +5,10 @@ use Rattle.std.proofs.lemmas.Bool.{ltb-true}
 use Rattle.std.proofs.lemmas.List.Elements.{All-nil, All-cons, All-weaker}
 use Rattle.std.proofs.lemmas.List.Sums.{AllPass-from_list_all}
 use Rattle.std.specs.List.{list_all}
-use Rattle.dom_base.specs.declared.names.As.{As}
+use Rattle.client_laws.specs.plant_model.Types.{As, LineEvent, NetworkParts}
 use Rattle.dom_edge.specs.Stores.{Files}
 use Rattle.line_text.specs.Lines.{NumberedLine, told_lines}
-use Rattle.plant_text.specs.declared.line.LineEvent.{LineEvent}
 use Rattle.plant_text.specs.declared.line.LineEvent.TheVariants as line
-use Rattle.plant_text.specs.declared.settings.NetworkParts.{NetworkParts}
 use Rattle.plant_text.specs.Lines.{line_in}
 use Rattle.plant_text.specs.Networks.{with_path}
 use Rattle.client_laws.specs.run_laws.Sizes.{all_lengths}

@@ -2,11 +2,9 @@
 use Rattle.std.proofs.Common.{◌≡◌, ◌≤◌, ℕ, true, List, length, Some, None, inr, sym, subst}
 use Rattle.std.specs.declared.option.Option.{Option}
 use Rattle.std.specs.Io.KnownBytes.{Appends}
-use Rattle.dom_base.specs.declared.names.As.{As}
+use Rattle.client_laws.specs.plant_model.Types.{As, NetFault, NetworkParts}
 use Rattle.dom_edge.specs.Stores.{Files, IfFile}
 use Rattle.dom_edge.specs.Whole.{AppendsSome}
-use Rattle.plant_text.specs.declared.fault.NetFault.{NetFault}
-use Rattle.plant_text.specs.declared.settings.NetworkParts.{NetworkParts}
 use Rattle.plant_text.specs.Networks.{with_path}
 use Rattle.plant_text.specs.Reads.{IsFaulty}
 use Rattle.plant_text.specs.Settings.{is_element}

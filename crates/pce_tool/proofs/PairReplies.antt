@@ -6,20 +6,15 @@ use Rattle.std.proofs.lemmas.Bool.Decides.{eqb_tells}
 use Rattle.std.proofs.lemmas.List.Concat.{flat_map-cons, flat_map-append}
 use Rattle.std.proofs.lemmas.List.Elements.{Contains-get_or}
 use Rattle.dom_base.specs.declared.limits.TheConstants.{COST_MAX}
-use Rattle.dom_base.specs.declared.addr.Addr.{Addr}
+use Rattle.client_laws.specs.plant_model.Types.{Addr, Link, Answer, Path, Reply, Wanted}
 use Rattle.dom_base.specs.declared.addr.Addr.TheVariants.{V4, V6}
-use Rattle.dom_base.specs.declared.link.Link.{Link}
 use Rattle.te_links.specs.Rows.{Rows}
 use Rattle.walk_laws.specs.Walks.{Walk, cost}
 use Rattle.pcep_subobjects.specs.Hops.{hop_text, hops_text, strict_hop}
 use Rattle.pcep_objects.specs.Spelling.{object_text}
 use Rattle.disclosure.specs.Shown.{open_of}
-use Rattle.pcep_messages.specs.declared.message.Answer.{Answer}
 use Rattle.pcep_messages.specs.declared.message.Answer.TheVariants as answers
 use Rattle.pcep_messages.specs.declared.message.Message.TheVariants as messages
-use Rattle.pcep_messages.specs.declared.message.Path.{Path}
-use Rattle.pcep_messages.specs.declared.message.Reply.{Reply}
-use Rattle.pcep_messages.specs.declared.message.Wanted.{Wanted}
 use Rattle.pcep_messages.specs.Spelling.{message_text, reply_objects, objects_text}
 use Rattle.diverse_pairs.specs.Conditions.{asked_of, IsShownBy}
 use Rattle.diverse_pairs.specs.Pairs.{IsFeasiblePair}

@@ -1,8 +1,7 @@
 -- Domains that words name, the first and the others.
 use Rattle.std.proofs.Common.{◌≡◌, ℕ, ◌+◌, Bool, true, false, ◌&&◌, cond, List, [], ◌∷◌, Option, Some, None, refl, sym, ap, subst, ◌∙◌, ◌≤◌, length, map, arith}
 use Rattle.std.specs.Prelude.{is_some, nat_le}
-use Rattle.dom_base.specs.declared.addr.Addr.{Addr}
-use Rattle.dom_base.specs.declared.names.As.{As}
+use Rattle.client_laws.specs.plant_model.Types.{Addr, As}
 use Rattle.dom_base.specs.Steps.{◌>>=◌}
 use Rattle.pce_tool.specs.declared.route.Route.{Route}
 use Rattle.pce_tool.specs.Tasks.{along_in, are_different, are_sequence, domain_in, domains_in, route_along, sequence_most}

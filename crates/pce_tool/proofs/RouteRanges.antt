@@ -3,8 +3,7 @@ use Rattle.std.proofs.Common.{◌≡◌, ◌≤◌, ◌<◌, ◌^◌, ◌-◌, �
 use Rattle.std.specs.Str.{bytes_eq}
 use Rattle.std.proofs.lemmas.Bool.{and_parts, eqb-true, leb-true}
 use Rattle.std.proofs.lemmas.List.Elements.{All-nil, All-cons}
-use Rattle.dom_base.specs.declared.addr.Addr.{Addr}
-use Rattle.dom_base.specs.declared.names.As.{As}
+use Rattle.client_laws.specs.plant_model.Types.{Addr, As}
 use Rattle.dom_base.specs.AddrText.{addr_in}
 use Rattle.dom_base.specs.Numerals.{number_in}
 use Rattle.dom_base.specs.Steps.{◌>>=◌}

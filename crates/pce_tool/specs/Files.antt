@@ -6,11 +6,10 @@ use Rattle.te_links.specs.declared.fault.TopoFault.{TopoFault}
 use Rattle.te_text.specs.Reads.{IsFaulty}
 use Rattle.network_files.specs.Topologies.{HasTopology, topology_max}
 use Rattle.te_text.specs.declared.error.TextError.TheVariants.{At}
-use Rattle.path_certificate.specs.declared.certificate.Certificate.{Certificate}
+use Rattle.client_laws.specs.plant_model.Types.{Certificate, NetFault}
 use Rattle.path_certificate.specs.Text.{certificate_in}
 use Rattle.diverse_pairs.specs.declared.certificate.PairCertificate.{PairCertificate}
 use Rattle.diverse_pairs.specs.Text.{pair_in}
-use Rattle.plant_text.specs.declared.fault.NetFault.{NetFault}
 use Rattle.plant_text.specs.declared.fault.NetFault.TheVariants.{Topo}
 use Rattle.pce_tool.specs.Limits.{certificate_max}
 

@@ -3,8 +3,7 @@ use Rattle.std.specs.Prelude.{◌≡◌, ◌≤◌, ℕ, false, true, All, List,
 use Rattle.dom_edge.specs.Stores.{Files}
 use Rattle.line_text.specs.Lines.{NumberedLine, told_lines}
 use Rattle.plant_text.specs.declared.line.LineEvent.TheVariants.{DiscloseOn}
-use Rattle.plant_text.specs.declared.settings.NetworkParts.{NetworkParts}
-use Rattle.plant_text.specs.declared.settings.PeerRow.{PeerRow}
+use Rattle.client_laws.specs.plant_model.Types.{NetworkParts, PeerRow}
 use Rattle.plant_text.specs.Networks.{with_path}
 use Rattle.plant_text.specs.Settings.{is_element}
 use Rattle.client_laws.specs.plant_model.Blind.{blind_opened, heard}

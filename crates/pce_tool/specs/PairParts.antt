@@ -1,9 +1,8 @@
 -- What the parts of the answer to a request for a pair say to one another.
 use Rattle.std.specs.Prelude.{◌≡◌, ◌≤◌, ◌+◌, ℕ, List, [], ◌∷◌, length, Some}
 use Rattle.dom_base.specs.declared.limits.TheConstants.{COST_MAX}
-use Rattle.dom_base.specs.declared.addr.Addr.{Addr}
+use Rattle.client_laws.specs.plant_model.Types.{Addr, Answer}
 use Rattle.disclosure.specs.Shown.{open_of}
-use Rattle.pcep_messages.specs.declared.message.Answer.{Answer}
 use Rattle.pcep_messages.specs.declared.message.Answer.TheVariants as answers
 use Rattle.pce_tool.specs.declared.commands.pair.Costs.{Costs}
 use Rattle.pce_tool.specs.declared.commands.pair.Answers.{Answers}

@@ -3,7 +3,7 @@ use Rattle.std.specs.Prelude.{◌≡◌, ◌≤◌, ℕ, List, length, Option}
 use Rattle.std.specs.Io.KnownBytes.{Appends}
 use Rattle.dom_edge.specs.Stores.{Files, IfFile, IsLongFile}
 use Rattle.te_links.specs.declared.fault.TopoFault.{TopoFault}
-use Rattle.plant_text.specs.declared.fault.NetFault.{NetFault}
+use Rattle.client_laws.specs.plant_model.Types.{NetFault}
 use Rattle.plant_text.specs.declared.fault.NetFault.TheVariants.{Topo}
 use Rattle.pce_tool.specs.declared.status.Status.{Status}
 use Rattle.pce_tool.specs.declared.status.Status.TheVariants as status

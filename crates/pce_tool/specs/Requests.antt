@@ -1,10 +1,8 @@
 -- What commands read, as hexadecimal text: one path request within the topology's own domain, or two for a pair within it.
 use Rattle.std.specs.Prelude.{◌≡◌, ◌⊎◌, ◌≤◌, ℕ, true, List, [], ◌∷◌, length, Option, Some, None, Result, Ok, Err}
-use Rattle.pcep_messages.specs.declared.message.Message.{Message}
+use Rattle.client_laws.specs.plant_model.Types.{Message, Asked, Wish}
 use Rattle.pcep_messages.specs.declared.message.Message.TheVariants as messages
 use Rattle.pcep_messages.specs.declared.message.Bad.TheVariants.{Malformed}
-use Rattle.pcep_messages.specs.declared.message.Asked.{Asked}
-use Rattle.pcep_messages.specs.declared.message.Wish.{Wish}
 use Rattle.pcep_messages.specs.declared.message.Wish.TheVariants as wishes
 use Rattle.pcep_messages.specs.Messages.{message_of}
 use Rattle.pcep_messages.specs.Said.{rp_of, iro_of, asks_key}

@@ -3,7 +3,7 @@ use Rattle.std.proofs.Common.{◌≡◌, ◌+◌, ◌∙◌, ℕ, Option, Some, 
 use Rattle.std.proofs.lemmas.List.{append-nil}
 use Rattle.std.proofs.lemmas.List.FromFn.{map-range_with_len_more}
 use Rattle.std.specs.Result.{IfOk}
-use Rattle.dom_base.specs.declared.names.NoMemory.{NoMemory}
+use Rattle.plant_play.specs.plant_model.Types.{NoMemory}
 use Rattle.dom_edge.specs.Stores.{Files, file_named}
 use Rattle.network_files.specs.DrawnFiles.{AreFiles}
 use Rattle.plant_play.specs.Playing.{PlayedNetwork}

@@ -1,11 +1,9 @@
 -- How many octets a question takes.
 use Rattle.std.proofs.Common.{◌≡◌, ◌≤◌, ◌+◌, ◌*◌, ℕ, Option, Some, None, List, [], ◌∷◌, ◌++◌, length, map, refl, ap, arith, length-append}
 use Rattle.std.proofs.lemmas.List.{append-nil}
-use Rattle.dom_base.specs.declared.names.As.{As}
-use Rattle.dom_base.specs.declared.addr.Addr.{Addr}
+use Rattle.plant_play.specs.plant_model.Types.{As, Addr, Object}
 use Rattle.dom_base.specs.declared.addr.Addr.TheVariants.{V4, V6}
 use Rattle.pcep_subobjects.specs.Hops.{hop_text, hops_text}
-use Rattle.pcep_objects.specs.declared.object.Object.{Object}
 use Rattle.pcep_objects.specs.Spelling.{object_text}
 use Rattle.pcep_messages.specs.Spelling.{objects_text}
 use Rattle.plant_play.specs.plant_model.Writing.{as_hop, bandwidth, ends, iro}

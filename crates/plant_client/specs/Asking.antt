@@ -1,13 +1,10 @@
 -- How a client asks a network for a path: the lines that are played for it, what it receives, and why it does not come to that.
 use Rattle.std.specs.Prelude.{◌≡◌, ℕ, List, [], ◌∷◌, ◌++◌, map, Option, Some, None, Ok, Err}
 use Rattle.std.specs.List.{flat_map}
-use Rattle.dom_base.specs.declared.names.As.{As}
+use Rattle.plant_play.specs.plant_model.Types.{As, LineEvent, ElementRow, NetworkParts}
 use Rattle.dom_edge.specs.Stores.{Files}
 use Rattle.pcep_subobjects.specs.Subobjects.{AreOctets}
-use Rattle.plant_text.specs.declared.line.LineEvent.{LineEvent}
 use Rattle.plant_text.specs.declared.line.LineEvent.TheVariants as line
-use Rattle.plant_text.specs.declared.settings.ElementRow.{ElementRow}
-use Rattle.plant_text.specs.declared.settings.NetworkParts.{NetworkParts}
 use Rattle.plant_text.specs.Settings.{elements_of, row_of}
 use Rattle.plant_play.specs.plant_model.declared.outcome.Outcome.TheVariants as outcome
 use Rattle.plant_play.specs.plant_model.Events.{Answered}

@@ -1,8 +1,7 @@
 -- A client of the first domain of the drawn network asks one question behind the other, each when the network has come to its end.
 use Rattle.std.specs.Prelude.{◌≡◌, ℕ, List, [], ◌∷◌, ◌++◌, Option, Some}
-use Rattle.dom_base.specs.declared.names.As.{As}
+use Rattle.plant_play.specs.plant_model.Types.{As, NetworkParts}
 use Rattle.dom_edge.specs.Stores.{Files, file_named}
-use Rattle.plant_text.specs.declared.settings.NetworkParts.{NetworkParts}
 use Rattle.plant_text.specs.Networks.{with_path}
 use Rattle.plant_play.specs.Playing.{PlayedNetwork}
 use Rattle.plant_play.specs.Turns.{Turn}

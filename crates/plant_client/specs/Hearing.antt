@@ -1,13 +1,9 @@
 -- What the last message that a client received says of the path that it asked for.
 use Rattle.std.specs.Prelude.{ℕ, List, [], ◌∷◌, Option, Some, None, Result, Ok, Err}
 use Rattle.dom_base.specs.Words.{units}
-use Rattle.pcep_messages.specs.declared.message.Answer.{Answer}
+use Rattle.plant_play.specs.plant_model.Types.{Answer, Bad, Message, Path, Reply}
 use Rattle.pcep_messages.specs.declared.message.Answer.TheVariants.{Paths, NoPath}
-use Rattle.pcep_messages.specs.declared.message.Bad.{Bad}
-use Rattle.pcep_messages.specs.declared.message.Message.{Message}
 use Rattle.pcep_messages.specs.declared.message.Message.TheVariants as messages
-use Rattle.pcep_messages.specs.declared.message.Path.{Path}
-use Rattle.pcep_messages.specs.declared.message.Reply.{Reply}
 use Rattle.pcep_messages.specs.Messages.{message_of}
 use Rattle.plant_client.specs.declared.hearing.Heard.{Heard}
 use Rattle.plant_client.specs.declared.hearing.Heard.TheVariants as heard

@@ -3,8 +3,7 @@ use Rattle.std.specs.Prelude.{ℕ, false, List, [], ◌∷◌, ◌++◌}
 use Rattle.pcep_codes.specs.declared.TheConstants.{VERSION}
 use Rattle.pcep_codes.specs.declared.classes.TheConstants as classes
 use Rattle.pcep_objects.specs.declared.object.Body.TheVariants as bodies
-use Rattle.pcep_messages.specs.declared.message.Asked.{Asked}
-use Rattle.pcep_messages.specs.declared.message.Message.{Message}
+use Rattle.plant_play.specs.plant_model.Types.{Asked, Message}
 use Rattle.pcep_messages.specs.declared.message.Message.TheVariants as messages
 use Rattle.pcep_messages.specs.Spelling.{message_text}
 use Rattle.plant_play.specs.plant_model.Writing.{bandwidth, ends, iro, needed}

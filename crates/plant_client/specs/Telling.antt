@@ -1,8 +1,7 @@
 -- What a client received, as lines for a person to read.
 use Rattle.std.specs.Prelude.{ℕ, ◌-◌, false, List, [], length, Option, Some, None, Result, Ok, Err, slice_get}
 use Rattle.pcep_framing.specs.Feeding.{feed_of}
-use Rattle.pcep_messages.specs.declared.message.Bad.{Bad}
-use Rattle.pcep_messages.specs.declared.message.Message.{Message}
+use Rattle.plant_play.specs.plant_model.Types.{Bad, Message}
 use Rattle.pcep_messages.specs.Messages.{message_of}
 use Rattle.plant_play.specs.transcript.Replies.{message_lines}
 

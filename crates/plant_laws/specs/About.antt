@@ -1,22 +1,13 @@
 -- What an answer is about: the request that is open, and the chain that it took; or the parent, which asked its children.
 use Rattle.std.specs.Prelude.{◌≡◌, ◌≤◌, ℕ, Bool, true, false, List, [], ◌∷◌, ◌++◌, Contains, Option, Some, bit_and}
-use Rattle.dom_base.specs.declared.names.As.{As}
-use Rattle.dom_base.specs.declared.addr.Addr.{Addr}
-use Rattle.dom_base.specs.declared.names.Peer.{Peer}
-use Rattle.dom_base.specs.declared.names.Peer.TheVariants.{Inner}
-use Rattle.dom_base.specs.declared.query.Query.{Query}
+use Rattle.plant_model.specs.Types.{As, Addr, Peer, Inner, Query, Reply, Path, Request, Wanted, NetworkParts, Issued, Metric, Answer, Branch}
 use Rattle.te_links.specs.Rows.{Rows}
 use Rattle.walk_laws.specs.Crossing.{Goal, Last, query_in, IsLeastCrossing, HasNoCrossing, crossing_cost}
 use Rattle.walk_laws.specs.Crossing as crossing
 use Rattle.pcep_codes.specs.declared.flags.TheConstants as flags
-use Rattle.pcep_messages.specs.declared.message.Reply.{Reply}
-use Rattle.pcep_messages.specs.declared.message.Path.{Path}
 use Rattle.pcep_messages.specs.declared.message.Answer.TheVariants.{Paths, NoPath}
 use Rattle.pcep_messages.specs.declared.message.Message.TheVariants as messages
-use Rattle.pcep_messages.specs.declared.message.Request.{Request}
-use Rattle.pcep_messages.specs.declared.message.Wanted.{Wanted}
 use Rattle.pcep_messages.specs.declared.message.Wish.TheVariants as wishes
-use Rattle.plant_text.specs.declared.settings.NetworkParts.{NetworkParts}
 use Rattle.plant_model.specs.declared.output.Output.{Output}
 use Rattle.plant_model.specs.declared.upper.ChildRow.{ChildRow}
 use Rattle.plant_model.specs.declared.upper.BorderJob.{BorderJob}
@@ -31,15 +22,11 @@ use Rattle.plant_model.specs.BorderGraph.{SolvesBorder, Found}
 use Rattle.plant_model.specs.Parent.{rows_at, Errand, errands}
 use Rattle.plant_text.specs.Settings.{class_of}
 use Rattle.plant_model.specs.Settings.{place, family}
-use Rattle.path_keys.specs.declared.issued.Issued.{Issued}
 use Rattle.plant_model.specs.State.{Takes, Solves}
 use Rattle.plant_model.specs.Plant.{PlantDeed, Segment}
 use Rattle.plant_laws.specs.Transcript.{Transcript, Within, opened, Delivered, Handed, SentIn, Visit, Chain, numbers, outputs_at, asks, effect, Ends}
 use Rattle.plant_laws.specs.Ends.{End, goal_of, ChainEnds}
 use Rattle.plant_laws.specs.Shown.{ShowsAlong}
-use Rattle.dom_base.specs.declared.query.Metric.{Metric}
-use Rattle.pcep_messages.specs.declared.message.Answer.{Answer}
-use Rattle.vspt_tree.specs.declared.branch.Branch.{Branch}
 
 -- no id comes round
 abbrev pub IsShort : Transcript → Type 0

@@ -1,13 +1,8 @@
 -- Each path request that is accepted is answered once: it is pending, or exactly one answer to it was put into the queue of its
 -- peer, or it was dropped without an answer, since its peer cancelled it or went down. Each answer has one request.
 use Rattle.std.specs.Prelude.{◌≡◌, ◌≤◌, ℕ, true, List, [], ◌∷◌, Some, None}
-use Rattle.dom_base.specs.declared.names.As.{As}
-use Rattle.dom_base.specs.declared.names.Peer.{Peer}
-use Rattle.pcep_messages.specs.declared.message.Asked.{Asked}
-use Rattle.pcep_messages.specs.declared.message.Notice.{Notice}
-use Rattle.pcep_messages.specs.declared.message.Request.{Request}
+use Rattle.plant_model.specs.Types.{As, Peer, Asked, Notice, Request, NetworkParts}
 use Rattle.pcep_messages.specs.declared.message.Message.TheVariants as messages
-use Rattle.plant_text.specs.declared.settings.NetworkParts.{NetworkParts}
 use Rattle.plant_model.specs.declared.output.Output.{Output}
 use Rattle.plant_model.specs.Wire.{Codec, Admitted, Wrong}
 use Rattle.plant_model.specs.State.{Takes, Downs}

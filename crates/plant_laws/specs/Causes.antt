@@ -1,20 +1,11 @@
 -- Each message of a run has its cause, and where the cause stands it is put out: HasCause says of a deed why it was done and what it
 -- put out, SaysAll that what calls for a deed has one. MessageCauses has what is said to a message.
 use Rattle.std.specs.Prelude.{◌≡◌, ◌≢◌, ◌⊎◌, ◌%◌, ℕ, true, false, cond, List, [], ◌∷◌, ◌++◌, Contains, Option, Some, Ok}
-use Rattle.dom_base.specs.declared.names.As.{As}
-use Rattle.dom_base.specs.declared.names.Tick.{Tick}
-use Rattle.dom_base.specs.declared.names.Peer.{Peer}
-use Rattle.dom_base.specs.declared.names.Peer.TheVariants.{Outside, Inner}
-use Rattle.pcep_messages.specs.declared.message.Message.{Message}
-use Rattle.pcep_session.specs.declared.session.Input.{Input}
+use Rattle.plant_model.specs.Types.{As, Tick, Peer, Outside, Inner, Message, Input, Action, Own, State as Session, NetworkParts}
 use Rattle.pcep_session.specs.declared.session.Input.TheVariants as input
-use Rattle.pcep_session.specs.declared.actions.Action.{Action}
 use Rattle.pcep_session.specs.declared.actions.Action.TheVariants as action
-use Rattle.pcep_session.specs.declared.actions.Own.{Own}
 use Rattle.pcep_session.specs.declared.actions.Own.TheVariants as own
-use Rattle.pcep_session.specs.declared.state.State.{State as Session}
 use Rattle.pcep_session.specs.Table.{new_state, turn_of}
-use Rattle.plant_text.specs.declared.settings.NetworkParts.{NetworkParts}
 use Rattle.plant_text.specs.Names.{same_as, parent_as}
 use Rattle.plant_text.specs.Settings.{Adjacency, adjacencies, is_linked}
 use Rattle.plant_model.specs.declared.event.Event.{Event}

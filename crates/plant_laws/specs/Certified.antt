@@ -1,16 +1,10 @@
 -- The certificate of a solve, by the transcript: its rows are over the topology that the element had when it took the request, from
 -- the seeds that the taken reply gives.
 use Rattle.std.specs.Prelude.{◌≡◌, ℕ, List, [], ◌∷◌, Some}
-use Rattle.dom_base.specs.declared.names.As.{As}
-use Rattle.pcep_messages.specs.declared.message.Request.{Request}
-use Rattle.pcep_messages.specs.declared.message.Wanted.{Wanted}
+use Rattle.plant_model.specs.Types.{As, Request, Wanted, RequestKey, Branch, Ask, NetworkParts}
 use Rattle.pcep_messages.specs.declared.message.Wish.TheVariants as wishes
-use Rattle.request_table.specs.declared.held.RequestKey.{RequestKey}
-use Rattle.vspt_tree.specs.declared.branch.Branch.{Branch}
-use Rattle.border_costs.specs.declared.job.Ask.{Ask}
 use Rattle.border_costs.specs.declared.answer.Answer.{Answer as Answers}
 use Rattle.border_costs.specs.Solutions.{AreRows}
-use Rattle.plant_text.specs.declared.settings.NetworkParts.{NetworkParts}
 use Rattle.plant_text.specs.Settings.{class_of}
 use Rattle.plant_model.specs.Wire.{Codec}
 use Rattle.plant_model.specs.Branches.{downs}

@@ -1,8 +1,7 @@
 -- A run stays within its network: nothing stands in a queue but along links, nothing is pending but at elements, and at the parent
 -- where there is one, and an outside peer that the settings do not have has no connection.
 use Rattle.std.specs.Prelude.{◌≡◌, ℕ, false, is_some, List, [], None}
-use Rattle.dom_base.specs.declared.names.As.{As}
-use Rattle.plant_text.specs.declared.settings.NetworkParts.{NetworkParts}
+use Rattle.plant_model.specs.Types.{As, NetworkParts}
 use Rattle.plant_text.specs.Settings.{is_linked, is_element, peer_row}
 use Rattle.plant_model.specs.Wire.{Codec}
 use Rattle.plant_model.specs.Plant.{Plant, Entry}

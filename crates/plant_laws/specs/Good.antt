@@ -3,20 +3,12 @@
 -- parent, where it is asked, is asked of IPv4 and hears of paths or none from its children. In the next quiet state it had its one answer:
 -- paths, or that there are none.
 use Rattle.std.specs.Prelude.{◌≡◌, ◌≢◌, ℕ, true, List, ◌∷◌, [], Contains, Some}
-use Rattle.dom_base.specs.declared.names.As.{As}
-use Rattle.dom_base.specs.declared.addr.Addr.{Addr}
-use Rattle.dom_base.specs.declared.names.Peer.{Peer}
-use Rattle.dom_base.specs.declared.names.Peer.TheVariants.{Outside, Inner}
+use Rattle.plant_model.specs.Types.{As, Addr, Peer, Outside, Inner, ErrorReport, Notice, Reply, Wanted, NetworkParts}
 use Rattle.pcep_codes.specs.declared.errors.TheConstants as errors
 use Rattle.pcep_codes.specs.declared.notices.TheConstants as notices
 use Rattle.pcep_codes.specs.declared.kinds.TheConstants as object_types
-use Rattle.pcep_messages.specs.declared.message.ErrorReport.{ErrorReport}
-use Rattle.pcep_messages.specs.declared.message.Notice.{Notice}
 use Rattle.pcep_messages.specs.declared.message.Message.TheVariants as messages
-use Rattle.pcep_messages.specs.declared.message.Reply.{Reply}
-use Rattle.pcep_messages.specs.declared.message.Wanted.{Wanted}
 use Rattle.request_table.specs.Pending.{key_of}
-use Rattle.plant_text.specs.declared.settings.NetworkParts.{NetworkParts}
 use Rattle.plant_text.specs.Names.{parent_as}
 use Rattle.plant_model.specs.declared.output.Output.{Output}
 use Rattle.plant_model.specs.Names.{the_parent, has_pair}

@@ -1,15 +1,9 @@
 -- What is said of every run of the paths and refusals that clients get.
 use Rattle.std.specs.Prelude.{◌≡◌, ◌≢◌, ◌⊎◌, ℕ, true, List, [], ◌∷◌, Some, None}
-use Rattle.dom_base.specs.declared.names.As.{As}
-use Rattle.dom_base.specs.declared.names.Peer.TheVariants.{Outside}
+use Rattle.plant_model.specs.Types.{As, Reply, Path, Request, Wanted, NetworkParts, Outside}
 use Rattle.plant_laws.specs.Ends.{End, goal_of}
 use Rattle.pcep_codes.specs.declared.no_paths.TheConstants as no_paths
-use Rattle.pcep_messages.specs.declared.message.Reply.{Reply}
-use Rattle.pcep_messages.specs.declared.message.Path.{Path}
 use Rattle.pcep_messages.specs.declared.message.Answer.TheVariants.{Paths, NoPath}
-use Rattle.pcep_messages.specs.declared.message.Request.{Request}
-use Rattle.pcep_messages.specs.declared.message.Wanted.{Wanted}
-use Rattle.plant_text.specs.declared.settings.NetworkParts.{NetworkParts}
 use Rattle.plant_model.specs.Wire.{Codec}
 use Rattle.plant_model.specs.Branches.{path_of}
 use Rattle.plant_model.specs.Element.{is_client}

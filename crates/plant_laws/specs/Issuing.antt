@@ -1,14 +1,8 @@
 -- Where keys come from: the solve that issued a key chose the segment that it stands for, and told the key for that segment's entry.
 use Rattle.std.specs.Prelude.{◌≡◌, ◌≢◌, ◌⊎◌, ◌+◌, ◌<◌, ℕ, false, List, [], ◌∷◌, ◌++◌, Contains}
-use Rattle.dom_base.specs.declared.names.As.{As}
-use Rattle.dom_base.specs.declared.names.Peer.{Peer}
-use Rattle.pcep_messages.specs.declared.message.Message.{Message}
-use Rattle.pcep_messages.specs.declared.message.Path.{Path}
+use Rattle.plant_model.specs.Types.{As, Peer, Message, Path, Issued, Best, NetworkParts}
 use Rattle.pcep_messages.specs.declared.message.Answer.TheVariants.{Paths}
-use Rattle.path_keys.specs.declared.issued.Issued.{Issued}
 use Rattle.path_keys.specs.Keys.{number_after}
-use Rattle.vspt_tree.specs.declared.branch.Best.{Best}
-use Rattle.plant_text.specs.declared.settings.NetworkParts.{NetworkParts}
 use Rattle.plant_model.specs.declared.output.Output.{Output}
 use Rattle.plant_text.specs.Names.{parent_as}
 use Rattle.plant_model.specs.Wire.{Codec}

@@ -1,19 +1,12 @@
 -- Who is shown what stands behind a key (RFC 5520, section 3.2), over every run.
 use Rattle.std.specs.Prelude.{◌≡◌, ◌≢◌, ◌⊎◌, ◌+◌, ◌≤◌, ◌<◌, ℕ, true, cond, List, [], ◌∷◌, AllPairs, All, Contains, None}
-use Rattle.dom_base.specs.declared.names.As.{As}
-use Rattle.dom_base.specs.declared.addr.Addr.{Addr}
-use Rattle.dom_base.specs.declared.names.Peer.{Peer}
-use Rattle.pcep_messages.specs.declared.message.Asked.{Asked}
-use Rattle.pcep_messages.specs.declared.message.Answer.{Answer}
+use Rattle.plant_model.specs.Types.{As, Addr, Peer, Asked, Answer, Request, Issued, NetworkParts}
 use Rattle.pcep_messages.specs.declared.message.Answer.TheVariants.{Paths}
 use Rattle.pcep_messages.specs.declared.message.Message.TheVariants as messages
-use Rattle.pcep_messages.specs.declared.message.Request.{Request}
 use Rattle.pcep_messages.specs.declared.message.Wish.TheVariants as wishes
 use Rattle.disclosure.specs.Policy.{can_expand}
 use Rattle.disclosure.specs.Shown.{open_of}
-use Rattle.path_keys.specs.declared.issued.Issued.{Issued}
 use Rattle.path_keys.specs.Keys.{number_most}
-use Rattle.plant_text.specs.declared.settings.NetworkParts.{NetworkParts}
 use Rattle.plant_model.specs.declared.output.Output.{Output}
 use Rattle.plant_text.specs.Names.{same_as, parent_as}
 use Rattle.plant_model.specs.Wire.{Codec, Admitted}

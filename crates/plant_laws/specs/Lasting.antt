@@ -1,10 +1,8 @@
 -- A request that can be solved keeps its job until it ends, its number is never given again, and no key is issued after the moment.
 use Rattle.std.specs.Prelude.{◌≡◌, ◌≤◌, ℕ, nat_eq, Bool, true, List, Option, Some, None}
 use Rattle.std.specs.Map.{lookup}
-use Rattle.dom_base.specs.declared.names.As.{As}
-use Rattle.request_table.specs.declared.held.Held.{Held}
+use Rattle.plant_model.specs.Types.{As, Held, NetworkParts}
 use Rattle.request_table.specs.Pending.{Pending, NumbersRise}
-use Rattle.plant_text.specs.declared.settings.NetworkParts.{NetworkParts}
 use Rattle.plant_model.specs.declared.event.Event.{Event}
 use Rattle.plant_model.specs.declared.event.BlindEvent.{BlindEvent}
 use Rattle.plant_model.specs.Wire.{Codec}

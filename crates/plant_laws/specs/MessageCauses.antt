@@ -2,29 +2,17 @@
 -- section 5; RFC 6805, section 4.6). Each case tells the whole list of what is said, so where its cause stands this is said, and
 -- nothing else is. That an answer of paths, or that there are none, is right is said in Solves and Headline.
 use Rattle.std.specs.Prelude.{◌≡◌, ◌⊎◌, ℕ, Bool, true, false, List, [], ◌∷◌, ◌++◌, map, Contains, Option, Some, None}
-use Rattle.dom_base.specs.declared.names.As.{As}
-use Rattle.dom_base.specs.declared.addr.Addr.{Addr}
-use Rattle.dom_base.specs.declared.names.Peer.{Peer}
-use Rattle.dom_base.specs.declared.names.Peer.TheVariants.{Inner}
+use Rattle.plant_model.specs.Types.{As, Addr, Peer, Inner, Message, Asked, Reply, Notice, ErrorReport, Answer, Request, Wanted, NetworkParts}
 use Rattle.pcep_codes.specs.declared.errors.TheConstants as errors
 use Rattle.pcep_codes.specs.declared.notices.TheConstants as notices
 use Rattle.pcep_codes.specs.declared.no_paths.TheConstants as no_paths
-use Rattle.pcep_messages.specs.declared.message.Message.{Message}
 use Rattle.pcep_messages.specs.declared.message.Message.TheVariants as messages
-use Rattle.pcep_messages.specs.declared.message.Asked.{Asked}
-use Rattle.pcep_messages.specs.declared.message.Reply.{Reply}
-use Rattle.pcep_messages.specs.declared.message.Notice.{Notice}
-use Rattle.pcep_messages.specs.declared.message.ErrorReport.{ErrorReport}
-use Rattle.pcep_messages.specs.declared.message.Answer.{Answer}
 use Rattle.pcep_messages.specs.declared.message.Answer.TheVariants.{Paths, NoPath}
-use Rattle.pcep_messages.specs.declared.message.Request.{Request}
-use Rattle.pcep_messages.specs.declared.message.Wanted.{Wanted}
 use Rattle.pcep_messages.specs.declared.message.Wish.TheVariants as wishes
 use Rattle.disclosure.specs.Policy.{can_expand, is_denied}
 use Rattle.disclosure.specs.Shown.{open_of}
 use Rattle.request_table.specs.Pending.{IsFull, number_of, same_peer}
 use Rattle.path_keys.specs.Keys.{segment_of}
-use Rattle.plant_text.specs.declared.settings.NetworkParts.{NetworkParts}
 use Rattle.plant_text.specs.Names.{parent_as}
 use Rattle.plant_text.specs.Settings.{class_of, children}
 use Rattle.plant_model.specs.declared.output.Output.{Output}

@@ -1,6 +1,6 @@
 -- What lasts in each of several steps lasts over all of them.
 use Rattle.std.proofs.Common.{◌≡◌, ◌∙◌, Bool, Option, Some, None, refl, ap}
-use Rattle.request_table.specs.declared.held.Held.{Held}
+use Rattle.plant_model.specs.Types.{Held}
 use Rattle.request_table.specs.Pending.{Pending}
 use Rattle.plant_model.specs.Parent as parent
 use Rattle.plant_model.specs.State.{State}

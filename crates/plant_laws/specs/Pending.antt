@@ -1,9 +1,7 @@
 -- What a pending request is, by the transcript: it was delivered, and pins the topology that was the last one loaded before.
 use Rattle.std.specs.Prelude.{◌≡◌, Some}
-use Rattle.dom_base.specs.declared.names.As.{As}
-use Rattle.pcep_messages.specs.declared.message.Request.{Request}
+use Rattle.plant_model.specs.Types.{As, Request, NetworkParts}
 use Rattle.pcep_messages.specs.declared.message.Wish.TheVariants as wishes
-use Rattle.plant_text.specs.declared.settings.NetworkParts.{NetworkParts}
 use Rattle.plant_model.specs.Wire.{Codec}
 use Rattle.plant_model.specs.Element.{Row}
 use Rattle.plant_text.specs.Settings.{class_of}

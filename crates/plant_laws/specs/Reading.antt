@@ -1,9 +1,7 @@
 -- Every message that an outside peer's element takes is what is heeded of one that was read from bytes, and came from a peer of
 -- the settings.
 use Rattle.std.specs.Prelude.{◌≡◌, ℕ, true, is_some, List, [], ◌∷◌, Option, Some}
-use Rattle.dom_base.specs.declared.names.Peer.TheVariants.{Outside}
-use Rattle.plant_text.specs.declared.settings.NetworkParts.{NetworkParts}
-use Rattle.pcep_messages.specs.declared.message.Message.{Message}
+use Rattle.plant_model.specs.Types.{NetworkParts, Message, Outside}
 use Rattle.plant_model.specs.Wire.{Bytes, Codec}
 use Rattle.plant_model.specs.Outside.{heeded_in}
 use Rattle.plant_model.specs.State.{Deed, Takes}

@@ -1,13 +1,8 @@
 -- What is taken is what was meant, as long as all that was sent is in written form: from an inner queue the message that stood
 -- there first, and requests one at a time.
 use Rattle.std.specs.Prelude.{◌≡◌, List, ◌∷◌, length}
-use Rattle.dom_base.specs.declared.names.As.{As}
-use Rattle.dom_base.specs.declared.names.Peer.{Peer}
-use Rattle.dom_base.specs.declared.names.Peer.TheVariants.{Inner}
-use Rattle.pcep_messages.specs.declared.message.Asked.{Asked}
-use Rattle.pcep_messages.specs.declared.message.Message.{Message}
+use Rattle.plant_model.specs.Types.{As, Peer, Inner, Asked, Message, NetworkParts}
 use Rattle.pcep_messages.specs.declared.message.Message.TheVariants as messages
-use Rattle.plant_text.specs.declared.settings.NetworkParts.{NetworkParts}
 use Rattle.plant_model.specs.declared.output.Output.{Output}
 use Rattle.plant_model.specs.Wire.{Codec}
 use Rattle.plant_model.specs.State.{Takes, Pops}

@@ -1,24 +1,15 @@
 -- What elements tell their neighbours and the parent: for each entry the least cost of the rest of the chain, and nothing where
 -- there is no walk.
 use Rattle.std.specs.Prelude.{◌≡◌, ◌≢◌, ◌⊎◌, ℕ, true, false, List, [], ◌∷◌, Contains}
-use Rattle.dom_base.specs.declared.names.As.{As}
-use Rattle.dom_base.specs.declared.addr.Addr.{Addr}
-use Rattle.dom_base.specs.declared.names.Peer.{Peer}
+use Rattle.plant_model.specs.Types.{As, Addr, Peer, Reply, Path, Request, Wanted, Class, NetworkParts, Issued}
 use Rattle.pcep_codes.specs.declared.no_paths.TheConstants as no_paths
-use Rattle.pcep_messages.specs.declared.message.Reply.{Reply}
-use Rattle.pcep_messages.specs.declared.message.Path.{Path}
 use Rattle.pcep_messages.specs.declared.message.Answer.TheVariants.{Paths, NoPath}
-use Rattle.pcep_messages.specs.declared.message.Request.{Request}
-use Rattle.pcep_messages.specs.declared.message.Wanted.{Wanted}
-use Rattle.disclosure.specs.declared.class.Class.{Class}
-use Rattle.plant_text.specs.declared.settings.NetworkParts.{NetworkParts}
 use Rattle.plant_model.specs.declared.output.Output.{Output}
 use Rattle.plant_text.specs.Names.{parent_as}
 use Rattle.plant_model.specs.Wire.{Codec}
 use Rattle.plant_model.specs.Jobs.{entries_of}
 use Rattle.plant_text.specs.Settings.{class_of}
 use Rattle.plant_model.specs.State.{Solves}
-use Rattle.path_keys.specs.declared.issued.Issued.{Issued}
 use Rattle.plant_model.specs.Plant.{Plant, Entry, Run, deeds_of, Segment}
 use Rattle.plant_model.specs.Blind.{is_closed}
 use Rattle.plant_laws.specs.Transcript.{Transcript, Within, Visit, domains, pinned}

@@ -1,8 +1,7 @@
 -- A network at rest: all that was fed was taken, no message is on its way along a link, and no job of an element or the parent can be
 -- solved. Quiet is said of all numbers of domains; in a run nothing stands elsewhere, so at rest it is quiet.
 use Rattle.std.specs.Prelude.{◌≡◌, ℕ, true, false, List, []}
-use Rattle.dom_base.specs.declared.names.As.{As}
-use Rattle.plant_text.specs.declared.settings.NetworkParts.{NetworkParts}
+use Rattle.plant_model.specs.Types.{As, NetworkParts}
 use Rattle.plant_text.specs.Settings.{is_linked}
 use Rattle.plant_model.specs.Wire.{Codec}
 use Rattle.plant_model.specs.Events.{has_jobs, is_ready}

@@ -1,12 +1,10 @@
 -- The runs of which the laws speak.
 use Rattle.std.specs.Prelude.{◌≡◌, List}
-use Rattle.plant_text.specs.declared.settings.NetworkParts.{NetworkParts}
+use Rattle.plant_model.specs.Types.{NetworkParts, Asked, Message}
 use Rattle.plant_model.specs.Wire.{Codec}
 use Rattle.plant_model.specs.RealWire.{wire}
 use Rattle.plant_model.specs.Laws.{IsCodec, IsNetwork}
 use Rattle.plant_model.specs.Plant.{Plant, Entry, Run, deeds_of}
-use Rattle.pcep_messages.specs.declared.message.Asked.{Asked}
-use Rattle.pcep_messages.specs.declared.message.Message.{Message}
 use Rattle.pcep_messages.specs.declared.message.Message.TheVariants as messages
 use Rattle.pcep_messages.specs.Spelling.{IsWritten}
 use Rattle.plant_laws.specs.About.{IsShort}

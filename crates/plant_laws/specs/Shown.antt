@@ -1,22 +1,13 @@
 -- The walk that an answer shows (RFC 5520: a key stands for a segment).
 use Rattle.std.specs.Prelude.{◌≡◌, ℕ, Bool, true, false, List, [], ◌∷◌, ◌++◌, map, Contains, Some, None}
-use Rattle.dom_base.specs.declared.addr.Addr.{Addr}
-use Rattle.dom_base.specs.declared.link.Link.{Link}
-use Rattle.dom_base.specs.declared.query.Query.{Query}
-use Rattle.dom_base.specs.declared.query.Seed.{Seed}
+use Rattle.plant_model.specs.Types.{Addr, Link, Query, Seed, Hop, NetworkParts, Target, Down, Issued, Branch}
 use Rattle.te_links.specs.Rows.{Rows}
 use Rattle.walk_laws.specs.Labels.{IsLabel, IsSegment}
 use Rattle.walk_laws.specs.Crossing.{Last, Links, Over, query_in}
 use Rattle.walk_laws.specs.Crossing as crossing
-use Rattle.pcep_subobjects.specs.declared.hop.Hop.{Hop}
-use Rattle.plant_text.specs.declared.settings.NetworkParts.{NetworkParts}
-use Rattle.border_costs.specs.declared.job.Target.{Target}
 use Rattle.border_costs.specs.declared.job.Target.TheVariants.{Node, Next}
-use Rattle.border_costs.specs.declared.job.Down.{Down}
-use Rattle.path_keys.specs.declared.issued.Issued.{Issued}
 use Rattle.disclosure.specs.Shown.{open_of, closed_of}
 use Rattle.border_costs.specs.Asks.{AreSeedsTo, beyond}
-use Rattle.vspt_tree.specs.declared.branch.Branch.{Branch}
 use Rattle.vspt_tree.specs.Branches.{first_least}
 use Rattle.plant_model.specs.Branches.{downs}
 use Rattle.plant_model.specs.Settings.{place}

@@ -1,9 +1,7 @@
 -- In every state of a run the inner queues hold the texts of what stands in them by the transcript, and the current pin of an
 -- element is of the topology last loaded.
 use Rattle.std.specs.Prelude.{◌≡◌, List, [], ◌∷◌}
-use Rattle.dom_base.specs.declared.names.As.{As}
-use Rattle.pcep_messages.specs.declared.message.Message.{Message}
-use Rattle.plant_text.specs.declared.settings.NetworkParts.{NetworkParts}
+use Rattle.plant_model.specs.Types.{As, Message, NetworkParts}
 use Rattle.plant_model.specs.Wire.{Bytes, Codec}
 use Rattle.plant_model.specs.Plant.{Plant, Entry, Run, deeds_of}
 use Rattle.plant_laws.specs.Transcript.{Standing, standing, loaded, loads}

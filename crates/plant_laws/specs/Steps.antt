@@ -1,7 +1,7 @@
 -- A step is one thing: in a state of a run an event has one answer, one state after it and one list of deeds, but that it may be
 -- refused for want of memory.
 use Rattle.std.specs.Prelude.{◌≡◌, List}
-use Rattle.plant_text.specs.declared.settings.NetworkParts.{NetworkParts}
+use Rattle.plant_model.specs.Types.{NetworkParts}
 use Rattle.plant_model.specs.declared.event.Event.{Event}
 use Rattle.plant_model.specs.Wire.{Codec}
 use Rattle.plant_model.specs.Laws.{IsNetwork}

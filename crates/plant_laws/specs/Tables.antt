@@ -1,11 +1,8 @@
 -- The pending requests of elements and of the parent are those that the transcript shows open.
 use Rattle.std.specs.Prelude.{◌≡◌, ℕ, true, List, Contains, Some}
-use Rattle.dom_base.specs.declared.names.As.{As}
-use Rattle.dom_base.specs.declared.names.Peer.{Peer}
-use Rattle.pcep_messages.specs.declared.message.Request.{Request}
+use Rattle.plant_model.specs.Types.{As, Peer, Request, NetworkParts}
 use Rattle.pcep_messages.specs.declared.message.Wish.TheVariants as wishes
 use Rattle.request_table.specs.Pending.{ArePending, pending_most}
-use Rattle.plant_text.specs.declared.settings.NetworkParts.{NetworkParts}
 use Rattle.plant_text.specs.Names.{parent_as}
 use Rattle.plant_model.specs.Wire.{Codec}
 use Rattle.plant_model.specs.Element.{Row}

@@ -1,8 +1,7 @@
 -- Every topology of a run, current or pinned, obeys the rules of a topology and is of the element's own domain.
 use Rattle.std.specs.Prelude.{◌≡◌, List, Contains}
-use Rattle.dom_base.specs.declared.names.As.{As}
+use Rattle.plant_model.specs.Types.{As, NetworkParts}
 use Rattle.te_links.specs.Rows.{Rows, IsTopology, IsInOrder}
-use Rattle.plant_text.specs.declared.settings.NetworkParts.{NetworkParts}
 use Rattle.plant_model.specs.Wire.{Codec}
 use Rattle.plant_model.specs.Element.{Row}
 use Rattle.plant_model.specs.Plant.{Pin, Plant, Entry, Run, AreInRange}

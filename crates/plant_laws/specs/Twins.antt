@@ -1,13 +1,9 @@
 -- Two runs that differ in the topologies of one element alone, and that closed peers cannot tell them apart.
 use Rattle.std.specs.Prelude.{◌≡◌, ℕ, nat_eq, false, List, [], ◌∷◌, Some}
 use Rattle.std.specs.Map.{lookup}
-use Rattle.dom_base.specs.declared.names.As.{As}
-use Rattle.dom_base.specs.declared.border.BorderRow.{BorderRow}
+use Rattle.plant_model.specs.Types.{As, BorderRow, Held, Branch, NetworkParts}
 use Rattle.te_links.specs.Rows.{Rows}
-use Rattle.request_table.specs.declared.held.Held.{Held}
-use Rattle.vspt_tree.specs.declared.branch.Branch.{Branch}
 use Rattle.border_costs.specs.Tables.{IsBorderTable}
-use Rattle.plant_text.specs.declared.settings.NetworkParts.{NetworkParts}
 use Rattle.plant_model.specs.declared.event.Event.TheVariants as event
 use Rattle.plant_model.specs.Wire.{Codec}
 use Rattle.plant_model.specs.Element.{Item, Ready, is_client}

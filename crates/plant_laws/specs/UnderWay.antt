@@ -1,14 +1,8 @@
 -- What waits is under way: the request is in the queue of the next, pending there, or answered in the queue back; or an outside peer
 -- was asked, of which nothing is known but what it says.
 use Rattle.std.specs.Prelude.{◌≡◌, ◌≢◌, ◌≤◌, ℕ, List, [], ◌∷◌, Contains}
-use Rattle.dom_base.specs.declared.names.As.{As}
-use Rattle.dom_base.specs.declared.addr.Addr.{Addr}
-use Rattle.dom_base.specs.declared.names.Peer.{Peer}
-use Rattle.dom_base.specs.declared.names.Peer.TheVariants.{Outside, Inner}
-use Rattle.pcep_messages.specs.declared.message.Message.{Message}
-use Rattle.pcep_messages.specs.declared.message.Wanted.{Wanted}
+use Rattle.plant_model.specs.Types.{As, Addr, Peer, Outside, Inner, Message, Wanted, NetworkParts}
 use Rattle.request_table.specs.Pending.{key_of}
-use Rattle.plant_text.specs.declared.settings.NetworkParts.{NetworkParts}
 use Rattle.plant_text.specs.Names.{parent_as}
 use Rattle.plant_model.specs.Wire.{Codec}
 use Rattle.plant_model.specs.Writing.{request_message}

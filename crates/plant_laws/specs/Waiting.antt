@@ -1,10 +1,8 @@
 -- A request that waits was sent on: in the moment that delivered it, under the id for which it waits, along the rest of its
 -- sequence, to the peer that is asked for its next domain, or to the parent where it has none.
 use Rattle.std.specs.Prelude.{◌≡◌, ◌⊎◌, ℕ, false, List, [], ◌∷◌, Contains, Some, Bool}
-use Rattle.dom_base.specs.declared.names.As.{As}
-use Rattle.dom_base.specs.declared.names.Peer.{Peer}
+use Rattle.plant_model.specs.Types.{As, Peer, NetworkParts}
 use Rattle.request_table.specs.Pending.{same_key}
-use Rattle.plant_text.specs.declared.settings.NetworkParts.{NetworkParts}
 use Rattle.plant_model.specs.declared.route.Route.{Route}
 use Rattle.plant_model.specs.Names.{the_parent, same_id}
 use Rattle.plant_model.specs.Wire.{Codec}

@@ -1,13 +1,10 @@
 -- What a network without topologies says on the disclosed trace of a run, and that it is all that closed peers hear.
 use Rattle.std.specs.Prelude.{◌≡◌, ◌<◌, true, List, [], ◌∷◌, ◌++◌, AllPairs}
-use Rattle.dom_base.specs.declared.addr.Addr.{Addr}
-use Rattle.dom_base.specs.declared.border.BorderRow.{BorderRow}
+use Rattle.plant_model.specs.Types.{Addr, BorderRow, Ask, NetworkParts}
 use Rattle.te_links.specs.Rows.{Rows, IsInOrder}
-use Rattle.border_costs.specs.declared.job.Ask.{Ask}
 use Rattle.border_costs.specs.declared.answer.Answer.{Answer}
 use Rattle.border_costs.specs.Solutions.{AreRows}
 use Rattle.border_costs.specs.Tables.{IsBorderTable}
-use Rattle.plant_text.specs.declared.settings.NetworkParts.{NetworkParts}
 use Rattle.plant_model.specs.declared.event.BlindEvent.{BlindEvent}
 use Rattle.plant_model.specs.Wire.{Codec}
 use Rattle.plant_model.specs.Jobs.{IsJoinOf}

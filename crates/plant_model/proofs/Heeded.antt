@@ -1,7 +1,7 @@
 -- What heeding keeps of a message, and that what is heeded can be joined.
 use Rattle.std.proofs.Common.{◌≡◌, ◌*◌, ℕ, List, [], ◌∷◌, map, Option, Some, None, ap, refl}
 use Rattle.pcep_messages.specs.declared.message.Message.TheVariants as messages
-use Rattle.pcep_messages.specs.declared.message.Reply.{Reply}
+use Rattle.plant_model.specs.Types.{Reply}
 use Rattle.outside_part.specs.Ranges.{AreInRange, EachPath, CanBeJoined}
 use Rattle.outside_part.proofs.Inserting.{each_weaker}
 use Rattle.outside_part.proofs.SiftedAgain.{sifted_fits}

@@ -1,14 +1,11 @@
 -- The functions of the model are what the contracts of its parts say.
 use Rattle.std.proofs.Common.{◌≡◌, ◌≤◌, ◌<◌, ℕ, Bool, true, false, cond, List, [], ◌∷◌, ◌++◌, Option, Some, None, Ok, Err, sym, ◌∙◌, ap, subst, refl}
-use Rattle.dom_base.specs.declared.addr.Addr.{Addr}
-use Rattle.pcep_subobjects.specs.declared.hop.Hop.{Hop}
+use Rattle.plant_model.specs.Types.{Addr, Hop, Wish, Branch}
 use Rattle.pcep_subobjects.specs.Hops.{strict_hop}
-use Rattle.pcep_messages.specs.declared.message.Wish.{Wish}
 use Rattle.pcep_messages.specs.declared.message.Refusal.TheVariants as refusals
 use Rattle.pcep_messages.specs.Said.{rp_of}
 use Rattle.pcep_messages.specs.Refusals.{refusal_of}
 use Rattle.pcep_messages.specs.Requests.{wish_of, without_bit}
-use Rattle.vspt_tree.specs.declared.branch.Branch.{Branch}
 use Rattle.vspt_tree.specs.Branches.{IsOnward}
 use Rattle.vspt_tree.proofs.FirstLeast.{first_least_is}
 use Rattle.plant_model.specs.Branches.{hops_of, onward}

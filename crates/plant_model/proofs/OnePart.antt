@@ -10,9 +10,8 @@ use Rattle.std.proofs.lemmas.List.Sums.{sum_by-cons}
 use Rattle.dom_base.specs.Parts.{half_at, word_at}
 use Rattle.dom_base.proofs.Parts.{Again, whole_again}
 use Rattle.pcep_subobjects.specs.declared.hop.HopFault.{HopFault}
-use Rattle.pcep_objects.specs.declared.object.Body.{Body}
+use Rattle.plant_model.specs.Types.{Body, Object, Message, Asked, Reply, Bad}
 use Rattle.pcep_objects.specs.declared.object.Body.TheVariants as bodies
-use Rattle.pcep_objects.specs.declared.object.Object.{Object}
 use Rattle.pcep_objects.specs.declared.object.ObjectFault.TheVariants as faults
 use Rattle.pcep_objects.specs.declared.object.TlvFault.{TlvFault}
 use Rattle.pcep_subobjects.specs.Hops.{hops_of}
@@ -21,11 +20,7 @@ use Rattle.dom_base.specs.Words.{is_malformed}
 use Rattle.pcep_objects.specs.Bodies as of
 use Rattle.pcep_objects.specs.Bodies.{body_of, second_kind, of_length, with_tlvs, of_parts}
 use Rattle.pcep_objects.specs.Objects.{with_body}
-use Rattle.pcep_messages.specs.declared.message.Message.{Message}
 use Rattle.pcep_messages.specs.declared.message.Message.TheVariants as messages
-use Rattle.pcep_messages.specs.declared.message.Asked.{Asked}
-use Rattle.pcep_messages.specs.declared.message.Reply.{Reply}
-use Rattle.pcep_messages.specs.declared.message.Bad.{Bad}
 use Rattle.pcep_messages.specs.declared.message.Bad.TheVariants.{Malformed}
 use Rattle.pcep_messages.specs.declared.groups.Closer.TheVariants as closers
 use Rattle.pcep_messages.specs.Groups.{rp_in, is_rp, cut, closes_by, begin_with, go_on_with, asked_of, requests_of, reply_groups, reply_of}

@@ -6,39 +6,30 @@ use Rattle.std.specs.List.{filter_map, cons_option, AllByRecursion}
 use Rattle.std.proofs.lemmas.Bool.{leb-true, eqb-true, ltb-false, cases_lt, or_from}
 use Rattle.std.proofs.lemmas.List.{get_or_past}
 use Rattle.std.proofs.lemmas.List.Elements.{All-take, All-drop, All-head}
-use Rattle.dom_base.specs.declared.query.Exclusion.{Exclusion}
+use Rattle.plant_model.specs.Types.{Exclusion, Addr, Hop, Body, Object, Bad, Message, Asked, Reply, ErrorReport}
 use Rattle.dom_base.specs.declared.query.Excluded.TheVariants as excluded
-use Rattle.dom_base.specs.declared.addr.Addr.{Addr}
 use Rattle.dom_base.specs.declared.addr.Addr.TheVariants.{V4, V6}
 use Rattle.dom_base.specs.declared.query.Excluded.{Excluded}
 use Rattle.dom_base.specs.Parts.{half_at, word_at}
 use Rattle.dom_base.specs.Words.{is_malformed}
 use Rattle.pcep_subobjects.specs.declared.hop.HopFault.{HopFault}
 use Rattle.pcep_subobjects.specs.declared.hop.HopFault.TheVariants as hop_faults
-use Rattle.pcep_subobjects.specs.declared.hop.Hop.{Hop}
 use Rattle.pcep_subobjects.specs.declared.hop.Hop.TheVariants as hops
 use Rattle.pcep_subobjects.specs.Hops.{hop_has_length, hop_of, hop_at, hops_of}
 use Rattle.pcep_subobjects.specs.Addresses.{wide_at, long_at, bits_of, IsAddr}
 use Rattle.pcep_subobjects.specs.Subobjects.{is_whole_words, AreOctets}
 use Rattle.pcep_subobjects.specs.Exclusions as exclusions
 use Rattle.pcep_subobjects.specs.Exclusions.{exclusion_has_length, exclusion_of, exclusion_at, exclusions_of, is_exclusion_kind}
-use Rattle.pcep_objects.specs.declared.object.Body.{Body}
 use Rattle.pcep_objects.specs.declared.object.Body.TheVariants as bodies
-use Rattle.pcep_objects.specs.declared.object.Object.{Object}
 use Rattle.pcep_objects.specs.declared.object.ObjectFault.TheVariants as faults
 use Rattle.pcep_objects.specs.declared.object.TlvFault.{TlvFault}
 use Rattle.pcep_objects.specs.Bodies as of
 use Rattle.pcep_objects.specs.Bodies.{body_of, second_kind, of_length, with_tlvs, of_parts}
 use Rattle.pcep_objects.specs.Objects.{with_body}
 use Rattle.pcep_objects.specs.Spelling.{IsWord}
-use Rattle.pcep_messages.specs.declared.message.Bad.{Bad}
 use Rattle.pcep_messages.specs.declared.message.Bad.TheVariants.{Malformed}
-use Rattle.pcep_messages.specs.declared.message.Message.{Message}
 use Rattle.pcep_messages.specs.declared.message.Message.TheVariants as messages
-use Rattle.pcep_messages.specs.declared.message.Asked.{Asked}
 use Rattle.pcep_messages.specs.declared.groups.Closer.TheVariants as closers
-use Rattle.pcep_messages.specs.declared.message.Reply.{Reply}
-use Rattle.pcep_messages.specs.declared.message.ErrorReport.{ErrorReport}
 use Rattle.pcep_messages.specs.declared.groups.Closer.{Closer}
 use Rattle.pcep_messages.specs.Groups.{is_rp, cut, closes_by, begin_with, go_on_with, asked_of, requests_of, first_said, reply_groups, reply_of, report_groups, report_of}
 use Rattle.pcep_messages.specs.Messages.{placed, member_at, members_of, content_of, message_of}

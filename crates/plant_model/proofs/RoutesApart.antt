@@ -4,13 +4,10 @@ use Rattle.std.specs.Prelude.{All, AllPairs}
 use Rattle.std.proofs.lemmas.Bool.{eqb-true}
 use Rattle.std.proofs.lemmas.List.Elements.{All-nil, All-cons, All-head, All-tail}
 use Rattle.std.proofs.lemmas.List.Kept.{AllPairs-cons}
-use Rattle.dom_base.specs.declared.names.As.{As}
-use Rattle.disclosure.specs.declared.class.Class.{Class}
+use Rattle.plant_model.specs.Types.{As, Class, NetworkParts, PeerRow}
 use Rattle.disclosure.specs.declared.class.Class.TheVariants.{Client, Neighbour, Parent}
 use Rattle.plant_text.specs.Names.{same_as}
 use Rattle.plant_text.specs.Settings.{is_element}
-use Rattle.plant_text.specs.declared.settings.NetworkParts.{NetworkParts}
-use Rattle.plant_text.specs.declared.settings.PeerRow.{PeerRow}
 use Rattle.plant_model.specs.declared.route.Route.{Route}
 use Rattle.plant_model.specs.Laws.{IsNetwork, LeadApart, LeadsOut}
 use Rattle.plant_model.specs.Onwards.{RoutesDiffer, RoutesLeave}

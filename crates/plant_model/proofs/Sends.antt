@@ -6,30 +6,22 @@ use Rattle.std.proofs.lemmas.Bool.{eqb-false}
 use Rattle.std.proofs.lemmas.List.{append-nil}
 use Rattle.std.proofs.lemmas.List.Concat.{flat_map-append}
 use Rattle.std.proofs.lemmas.List.Elements.{All-nil, All-cons, All-head, All-tail}
-use Rattle.dom_base.specs.declared.names.As.{As}
-use Rattle.dom_base.specs.declared.addr.Addr.{Addr}
+use Rattle.plant_model.specs.Types.{As, Addr, Metric, Exclusion, Hop, Body, Object, Asked, Wanted}
 use Rattle.dom_base.specs.declared.addr.Addr.TheVariants.{V4, V6}
-use Rattle.dom_base.specs.declared.query.Metric.{Metric}
 use Rattle.dom_base.specs.declared.query.Metric.TheVariants.{Igp, Te, Hops}
-use Rattle.dom_base.specs.declared.query.Exclusion.{Exclusion}
 use Rattle.dom_base.specs.declared.query.Excluded.{Excluded}
 use Rattle.dom_base.specs.declared.query.Excluded.TheVariants as excluded
 use Rattle.path_constraints.specs.Support.{is_demand}
-use Rattle.pcep_subobjects.specs.declared.hop.Hop.{Hop}
 use Rattle.pcep_subobjects.specs.declared.hop.Hop.TheVariants as hop_kinds
 use Rattle.pcep_subobjects.specs.Addresses.{IsAddr, bits_of}
 use Rattle.pcep_subobjects.specs.Hops as hops
 use Rattle.pcep_subobjects.specs.Hops.{hop_text}
 use Rattle.pcep_subobjects.specs.Exclusions as exclusions
 use Rattle.pcep_subobjects.specs.Exclusions.{exclusion_text}
-use Rattle.pcep_objects.specs.declared.object.Body.{Body}
 use Rattle.pcep_objects.specs.declared.object.Body.TheVariants as bodies
-use Rattle.pcep_objects.specs.declared.object.Object.{Object}
 use Rattle.pcep_objects.specs.Spelling as objects
 use Rattle.pcep_objects.specs.Spelling.{IsWord, object_text}
-use Rattle.pcep_messages.specs.declared.message.Asked.{Asked}
 use Rattle.pcep_messages.specs.declared.message.Message.TheVariants as messages
-use Rattle.pcep_messages.specs.declared.message.Wanted.{Wanted}
 use Rattle.pcep_messages.specs.Groups.{is_rp, rp_in}
 use Rattle.pcep_messages.specs.Messages.{message_of}
 use Rattle.pcep_messages.specs.Said.{rp_of, end_points_in, end_points_of, bandwidth_in, masks_in, metric_in, metrics_of, xro_in, xro_of, iro_in, iro_of}

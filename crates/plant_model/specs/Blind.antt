@@ -1,21 +1,12 @@
 -- The blind plant: the network without topologies, pins and segments. A solve carries its border table.
 use Rattle.std.specs.Prelude.{◌≡◌, ◌⊎◌, ℕ, Bool, true, false, cond, nat_eq, List, [], ◌∷◌, ◌++◌, Option, Some, None, Ok, Err, ◌≤◌, AllPairs, All, map}
 use Rattle.std.specs.Map.{lookup}
-use Rattle.dom_base.specs.declared.names.As.{As}
-use Rattle.dom_base.specs.declared.names.Peer.{Peer}
-use Rattle.dom_base.specs.declared.names.Peer.TheVariants.{Outside}
-use Rattle.dom_base.specs.declared.border.BorderRow.{BorderRow}
+use Rattle.plant_model.specs.Types.{As, Peer, Outside, BorderRow, Hop, Held, Best, Branch, Sent, NetworkParts}
 use Rattle.dom_base.specs.declared.limits.TheConstants.{COST_MAX}
 use Rattle.te_links.specs.Rows.{FewDifferent}
-use Rattle.pcep_subobjects.specs.declared.hop.Hop.{Hop}
-use Rattle.request_table.specs.declared.held.Held.{Held}
-use Rattle.vspt_tree.specs.declared.branch.Best.{Best}
-use Rattle.vspt_tree.specs.declared.branch.Branch.{Branch}
 use Rattle.border_costs.specs.Tables.{IsRowBefore, IsBorderTable}
 use Rattle.plant_model.specs.declared.outcome.Refused.TheVariants.{NoSuchPeer, NoSuchJob, NoMemory}
 use Rattle.plant_model.specs.declared.outcome.Outcome.TheVariants.{Done}
-use Rattle.plant_queues.specs.declared.sent.Sent.{Sent}
-use Rattle.plant_text.specs.declared.settings.NetworkParts.{NetworkParts}
 use Rattle.plant_text.specs.declared.limits.TheConstants.{ROW_ENTRIES_MAX}
 use Rattle.plant_model.specs.declared.event.Event.{Event}
 use Rattle.plant_model.specs.declared.event.Event.TheVariants as event

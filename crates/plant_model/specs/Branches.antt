@@ -1,15 +1,9 @@
 -- The branches of a reply (RFC 5441, section 5; RFC 5520): how they are read, and how an element puts its own part before one.
 use Rattle.std.specs.Prelude.{ℕ, cond, ◌==◌, nat_le, List, [], ◌∷◌, ◌++◌, map, Option, Some, None}
-use Rattle.dom_base.specs.declared.addr.Addr.{Addr}
-use Rattle.dom_base.specs.declared.query.Metric.{Metric}
+use Rattle.plant_model.specs.Types.{Addr, Metric, Hop, Path, Branch, Best, Down}
 use Rattle.dom_base.specs.declared.limits.TheConstants.{COST_MAX}
-use Rattle.pcep_subobjects.specs.declared.hop.Hop.{Hop}
 use Rattle.pcep_subobjects.specs.declared.hop.Hop.TheVariants.{Prefix, AsNumber, Key, Other}
-use Rattle.pcep_messages.specs.declared.message.Path.{Path}
-use Rattle.vspt_tree.specs.declared.branch.Branch.{Branch}
-use Rattle.vspt_tree.specs.declared.branch.Best.{Best}
 use Rattle.vspt_tree.specs.Branches.{first_least}
-use Rattle.border_costs.specs.declared.job.Down.{Down}
 use Rattle.pcep_subobjects.specs.Hops.{strict_hop}
 use Rattle.disclosure.specs.Shown.{open_of, closed_of}
 use Rattle.plant_model.specs.Wire.{Codec}

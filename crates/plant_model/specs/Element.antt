@@ -1,18 +1,10 @@
 -- One element: its pending requests, its keys and its neighbours.
 use Rattle.std.specs.Prelude.{ℕ, suc, Bool, true, false, not, cond, ◌==◌, List, [], ◌∷◌, ◌++◌, length, drop, map, filter, Option, Some, None}
 use Rattle.std.specs.Option.{option_map}
-use Rattle.dom_base.specs.declared.names.As.{As}
-use Rattle.dom_base.specs.declared.addr.Addr.{Addr}
-use Rattle.dom_base.specs.declared.names.Peer.{Peer}
-use Rattle.pcep_messages.specs.declared.message.Message.{Message}
-use Rattle.pcep_messages.specs.declared.message.Wanted.{Wanted}
-use Rattle.disclosure.specs.declared.class.Class.{Class}
+use Rattle.plant_model.specs.Types.{As, Addr, Peer, Message, Wanted, Class, Deny, Held, Branch}
 use Rattle.disclosure.specs.declared.class.Class.TheVariants.{Client, Neighbour, Parent}
-use Rattle.disclosure.specs.declared.class.Deny.{Deny}
-use Rattle.request_table.specs.declared.held.Held.{Held}
 use Rattle.request_table.specs.Pending.{Pending, closed_of, same_peer}
 use Rattle.path_keys.specs.Keys.{Keys, expired_of}
-use Rattle.vspt_tree.specs.declared.branch.Branch.{Branch}
 use Rattle.plant_model.specs.declared.output.Output.{Output}
 use Rattle.plant_model.specs.declared.output.Lost.{Lost}
 use Rattle.plant_model.specs.declared.route.Route.{Route}

@@ -1,18 +1,13 @@
 -- The events of a network that take no topology: each with its answer, or its refusal, which changes nothing.
 use Rattle.std.specs.Prelude.{ℕ, ◌+◌, ◌%◌, nat_eq, is_some, Bool, true, false, not, cond, ◌==◌, nat_lt, List, [], ◌∷◌, ◌++◌, map, Option, Some, None, Result, Ok, Err}
-use Rattle.dom_base.specs.declared.names.As.{As}
-use Rattle.dom_base.specs.declared.names.Peer.TheVariants.{Outside}
-use Rattle.pcep_subobjects.specs.declared.hop.Hop.{Hop}
+use Rattle.plant_model.specs.Types.{As, Hop, NetworkParts, Held, Phase, Outside}
 use Rattle.pcep_session.specs.declared.session.Input.TheVariants as input
-use Rattle.plant_text.specs.declared.settings.NetworkParts.{NetworkParts}
 use Rattle.plant_model.specs.declared.outcome.Outcome.{Outcome}
 use Rattle.plant_model.specs.declared.outcome.Outcome.TheVariants.{Done, Drained}
 use Rattle.plant_model.specs.declared.outcome.Refused.{Refused}
 use Rattle.plant_model.specs.declared.outcome.Refused.TheVariants.{NoSuchPeer, NotHolder, NothingToCarry}
 use Rattle.std.specs.Map.{lookup}
-use Rattle.request_table.specs.declared.held.Held.{Held}
 use Rattle.request_table.specs.Pending.{pending_most}
-use Rattle.pcep_session.specs.declared.state.Phase.{Phase}
 use Rattle.pcep_session.specs.declared.state.Phase.TheVariants as phase
 use Rattle.pcep_session.specs.Table.{new_state}
 use Rattle.pcep_framing.specs.Frames.{joined}

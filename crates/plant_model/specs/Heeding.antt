@@ -3,9 +3,8 @@ use Rattle.std.specs.Prelude.{◌≡◌, ◌≢◌, ℕ, ◌*◌, List, [], map,
 use Rattle.std.specs.List.{AllByRecursion}
 use Rattle.pcep_subobjects.specs.Subobjects.{AreOctets}
 use Rattle.pcep_messages.specs.Spelling.{kind_of}
-use Rattle.pcep_messages.specs.declared.message.Message.{Message}
+use Rattle.plant_model.specs.Types.{Message, Reply}
 use Rattle.pcep_messages.specs.declared.message.Message.TheVariants as messages
-use Rattle.pcep_messages.specs.declared.message.Reply.{Reply}
 use Rattle.outside_part.specs.Ranges.{EachPath, CanBeJoined}
 use Rattle.plant_model.specs.Wire.{Bytes, Codec}
 use Rattle.plant_model.specs.Laws.{IsCodec}

@@ -1,20 +1,11 @@
 -- The job of a pending request (RFC 5441, section 5): what is asked of the own domain, and the join of its border table.
 use Rattle.std.specs.Prelude.{◌≡◌, ◌⊎◌, ◌≤◌, ◌<◌, ℕ, cond, List, [], ◌∷◌, map, filter, Contains, AllPairs, Option, Some, None}
-use Rattle.dom_base.specs.declared.addr.Addr.{Addr}
+use Rattle.plant_model.specs.Types.{Addr, As, BorderRow, Entry, Class, Best, Branch, Target, Down, Ask}
 use Rattle.dom_base.specs.AddrOrder.{rank}
-use Rattle.dom_base.specs.declared.names.As.{As}
-use Rattle.dom_base.specs.declared.border.BorderRow.{BorderRow}
-use Rattle.te_links.specs.declared.rows.Entry.{Entry}
 use Rattle.te_links.specs.Rows.{Rows}
 use Rattle.walk_laws.specs.TableJoins.{RowJoins, RowEnds}
-use Rattle.disclosure.specs.declared.class.Class.{Class}
 use Rattle.disclosure.specs.declared.class.Class.TheVariants.{Client, Neighbour, Parent}
-use Rattle.vspt_tree.specs.declared.branch.Best.{Best}
-use Rattle.vspt_tree.specs.declared.branch.Branch.{Branch}
-use Rattle.border_costs.specs.declared.job.Target.{Target}
 use Rattle.border_costs.specs.declared.job.Target.TheVariants.{Node, Next}
-use Rattle.border_costs.specs.declared.job.Down.{Down}
-use Rattle.border_costs.specs.declared.job.Ask.{Ask}
 use Rattle.border_costs.specs.Asks.{beyond}
 use Rattle.plant_text.specs.Names.{same_as}
 use Rattle.plant_model.specs.Rising.{has_addr, insert_addr}

@@ -1,11 +1,8 @@
 -- What is asked of the wire and of the settings.
 use Rattle.std.specs.Prelude.{◌≡◌, ◌≢◌, ◌≤◌, ◌<◌, ◌⊎◌, ◌^◌, ℕ, false, true, is_some, List, [], ◌∷◌, length, AllPairs, All, Contains, Option, Some, None, bit_and}
 use Rattle.std.specs.List.{AllByRecursion}
-use Rattle.dom_base.specs.declared.names.As.{As}
-use Rattle.dom_base.specs.declared.addr.Addr.{Addr}
+use Rattle.plant_model.specs.Types.{As, Addr, ParentLink, Link, Asked, OpenBody, Reply, ErrorReport, Message, Request, Wanted, NetworkParts, ElementRow, PeerRow}
 use Rattle.dom_base.specs.declared.limits.TheConstants.{COST_MAX}
-use Rattle.dom_base.specs.declared.border.ParentLink.{ParentLink}
-use Rattle.dom_base.specs.declared.link.Link.{Link}
 use Rattle.pcep_codes.specs.declared.kinds.TheConstants as object_types
 use Rattle.pcep_codes.specs.declared.flags.TheConstants as rp_flags
 use Rattle.pcep_codes.specs.declared.errors.TheConstants as errors
@@ -13,25 +10,15 @@ use Rattle.pcep_subobjects.specs.Addresses.{IsAddr, bits_of}
 use Rattle.te_links.specs.Rows.{IsMetric}
 use Rattle.walk_laws.specs.Crossing.{query_in}
 use Rattle.pcep_objects.specs.Spelling.{IsWord}
-use Rattle.pcep_messages.specs.declared.message.Asked.{Asked}
-use Rattle.pcep_objects.specs.declared.object.OpenBody.{OpenBody}
-use Rattle.pcep_messages.specs.declared.message.Reply.{Reply}
-use Rattle.pcep_messages.specs.declared.message.ErrorReport.{ErrorReport}
 use Rattle.pcep_session.specs.Reports.{first_opening_of}
-use Rattle.pcep_messages.specs.declared.message.Message.{Message}
 use Rattle.pcep_messages.specs.declared.message.Message.TheVariants as messages
-use Rattle.pcep_messages.specs.declared.message.Request.{Request}
-use Rattle.pcep_messages.specs.declared.message.Wanted.{Wanted}
 use Rattle.pcep_messages.specs.declared.message.Wish.TheVariants as wishes
 use Rattle.pcep_messages.specs.Spelling.{IsWritten, kind_of}
 use Rattle.pcep_framing.specs.Frames.{Framing, FeedsTo}
 use Rattle.disclosure.specs.declared.class.Class.TheVariants.{Neighbour}
 use Rattle.outside_part.specs.Ranges.{AreInRange}
-use Rattle.plant_text.specs.declared.settings.NetworkParts.{NetworkParts}
 use Rattle.plant_text.specs.declared.limits.TheConstants.{ELEMENTS_MAX, PARENT_LINKS_MAX, KEY_LIFE_MAX}
 use Rattle.pcep_messages.specs.declared.limits.TheConstants.{SEQUENCE_MAX}
-use Rattle.plant_text.specs.declared.settings.ElementRow.{ElementRow}
-use Rattle.plant_text.specs.declared.settings.PeerRow.{PeerRow}
 use Rattle.plant_text.specs.Names.{parent_as}
 use Rattle.plant_model.specs.Wire.{Bytes, Codec, Checked, Admitted, Wrong}
 use Rattle.plant_model.specs.Writing.{ends_kind, asked_of, request_message, vspt_flag}

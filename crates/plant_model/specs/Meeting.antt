@@ -1,17 +1,12 @@
 -- That the functions of the model are what the contracts of its parts say: branches, requests and generations, and the parent's limit.
 use Rattle.std.specs.Prelude.{◌≡◌, ◌↔◌, ℕ, ◌++◌, ◌==◌, List, Contains, count_by, Some, Result, Ok, Err, IsTrue}
-use Rattle.dom_base.specs.declared.names.As.{As}
+use Rattle.plant_model.specs.Types.{As, Hop, Asked, Request, Best, Branch}
 use Rattle.te_links.specs.Rows.{Rows}
 use Rattle.te_generations.specs.Shelf.{Shelf, IsShelf, pins_of, topology_of}
 use Rattle.te_generations.specs.Shelf as shelf
-use Rattle.pcep_subobjects.specs.declared.hop.Hop.{Hop}
-use Rattle.pcep_messages.specs.declared.message.Asked.{Asked}
-use Rattle.pcep_messages.specs.declared.message.Request.{Request}
 use Rattle.pcep_messages.specs.declared.message.Refusal.{Refusal}
 use Rattle.pcep_messages.specs.declared.message.Refusal.TheVariants as refusals
 use Rattle.pcep_messages.specs.Requests.{Answers}
-use Rattle.vspt_tree.specs.declared.branch.Best.{Best}
-use Rattle.vspt_tree.specs.declared.branch.Branch.{Branch}
 use Rattle.vspt_tree.specs.Branches.{IsBranchOf}
 use Rattle.plant_model.specs.declared.TheConstants.{PARENT_PENDING_MAX}
 use Rattle.plant_model.specs.Parent.{pending_most}

@@ -1,10 +1,7 @@
 -- When two names are the same, and maps by names.
 use Rattle.std.specs.Prelude.{ℕ, Bool, true, false, cond, ◌==◌, List, [], ◌∷◌}
-use Rattle.dom_base.specs.declared.names.As.{As}
-use Rattle.dom_base.specs.declared.addr.Addr.{Addr}
+use Rattle.plant_model.specs.Types.{As, Addr, Peer, Inner}
 use Rattle.dom_base.specs.AddrOrder.{rank}
-use Rattle.dom_base.specs.declared.names.Peer.{Peer}
-use Rattle.dom_base.specs.declared.names.Peer.TheVariants.{Inner}
 use Rattle.request_table.specs.Pending.{same_peer}
 use Rattle.plant_text.specs.Names.{same_as, parent_as}
 

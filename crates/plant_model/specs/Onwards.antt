@@ -1,7 +1,6 @@
 -- What the rules of settings say of routes: those of an element lead to different domains, and none of them is an element's.
 use Rattle.std.specs.Prelude.{◌≡◌, ◌≢◌, false, All, AllPairs}
-use Rattle.dom_base.specs.declared.names.As.{As}
-use Rattle.plant_text.specs.declared.settings.NetworkParts.{NetworkParts}
+use Rattle.plant_model.specs.Types.{As, NetworkParts}
 use Rattle.plant_text.specs.Settings.{is_element}
 use Rattle.plant_model.specs.declared.route.Route.{Route}
 use Rattle.plant_model.specs.Laws.{IsNetwork}

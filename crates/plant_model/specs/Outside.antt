@@ -1,9 +1,7 @@
 -- What an element heeds of what an outside peer tells: of a reply to a request that it sent there, what is kept by sifting.
 use Rattle.std.specs.Prelude.{ℕ, ◌*◌, List, map, Option, Some, None}
-use Rattle.dom_base.specs.declared.names.Peer.{Peer}
-use Rattle.pcep_messages.specs.declared.message.Message.{Message}
+use Rattle.plant_model.specs.Types.{Peer, Message, Reply}
 use Rattle.pcep_messages.specs.declared.message.Message.TheVariants as messages
-use Rattle.pcep_messages.specs.declared.message.Reply.{Reply}
 use Rattle.outside_part.specs.Sifting.{sifted}
 use Rattle.plant_model.specs.Wire.{Codec}
 use Rattle.plant_model.specs.Element.{Row, sent_through}

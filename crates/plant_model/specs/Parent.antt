@@ -1,28 +1,13 @@
 -- The parent (RFC 6805, section 4.6): it asks its children, one request for each end of interest, and joins what they answer.
 -- What each letter stands for is in docs/GLOSSARY.md, under Letters.
 use Rattle.std.specs.Prelude.{ℕ, Bool, true, false, not, cond, ◌==◌, List, [], ◌∷◌, ◌++◌, map, filter, Option, Some, None}
-use Rattle.dom_base.specs.declared.names.As.{As}
-use Rattle.dom_base.specs.declared.addr.Addr.{Addr}
-use Rattle.dom_base.specs.declared.border.ParentLink.{ParentLink}
-use Rattle.dom_base.specs.declared.names.Peer.{Peer}
-use Rattle.dom_base.specs.declared.names.Peer.TheVariants.{Outside, Inner}
+use Rattle.plant_model.specs.Types.{As, Addr, ParentLink, Peer, Outside, Inner, Message, Asked, Reply, Notice, ErrorReport, Answer, Request, Wanted, Wish, Branch, Held}
 use Rattle.pcep_codes.specs.declared.errors.TheConstants as errors
 use Rattle.pcep_codes.specs.declared.notices.TheConstants as notices
 use Rattle.pcep_codes.specs.declared.no_paths.TheConstants as no_paths
-use Rattle.pcep_messages.specs.declared.message.Message.{Message}
 use Rattle.pcep_messages.specs.declared.message.Message.TheVariants as messages
-use Rattle.pcep_messages.specs.declared.message.Asked.{Asked}
-use Rattle.pcep_messages.specs.declared.message.Reply.{Reply}
-use Rattle.pcep_messages.specs.declared.message.Notice.{Notice}
-use Rattle.pcep_messages.specs.declared.message.ErrorReport.{ErrorReport}
-use Rattle.pcep_messages.specs.declared.message.Answer.{Answer}
 use Rattle.pcep_messages.specs.declared.message.Answer.TheVariants.{Paths, NoPath}
-use Rattle.pcep_messages.specs.declared.message.Request.{Request}
-use Rattle.pcep_messages.specs.declared.message.Wanted.{Wanted}
-use Rattle.pcep_messages.specs.declared.message.Wish.{Wish}
 use Rattle.pcep_messages.specs.declared.message.Wish.TheVariants.{Path, Expand}
-use Rattle.vspt_tree.specs.declared.branch.Branch.{Branch}
-use Rattle.request_table.specs.declared.held.Held.{Held}
 use Rattle.request_table.specs.Pending.{Pending, number_of, opened_of, closed_of, is_full, same_peer}
 use Rattle.request_table.specs.Lends.{written_of}
 use Rattle.plant_model.specs.declared.output.Output.{Output}

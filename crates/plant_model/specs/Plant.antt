@@ -1,24 +1,17 @@
 -- The plant: a network with its topologies. One event at a time has one answer and one new state.
 use Rattle.std.specs.Prelude.{◌≡◌, ◌⊎◌, ◌<◌, ◌^◌, ◌-◌, ◌||◌, ℕ, suc, Bool, true, false, cond, ◌==◌, nat_eq, nat_le, List, [], ◌∷◌, ◌++◌, length, map, All, Option, Some, Ok, Err}
 use Rattle.std.specs.Map.{lookup}
-use Rattle.dom_base.specs.declared.names.As.{As}
-use Rattle.dom_base.specs.declared.addr.Addr.{Addr}
-use Rattle.dom_base.specs.declared.link.Link.{Link}
-use Rattle.te_links.specs.declared.rows.Entry.{Entry as EntryRow}
+use Rattle.plant_model.specs.Types.{As, Addr, Link, Entry as EntryRow, Held, Branch, Ask, NetworkParts}
 use Rattle.te_links.specs.Rows.{Rows, IsTopology, IsInOrder, all_links}
 use Rattle.pcep_subobjects.specs.Addresses.{IsAddr}
 use Rattle.te_generations.specs.Live.{empty_rows}
 use Rattle.te_generations.specs.Shelf.{live_most}
 use Rattle.disclosure.specs.Shown.{open_of}
-use Rattle.request_table.specs.declared.held.Held.{Held}
-use Rattle.vspt_tree.specs.declared.branch.Branch.{Branch}
-use Rattle.border_costs.specs.declared.job.Ask.{Ask}
 use Rattle.border_costs.specs.declared.answer.Answer.{Answer}
 use Rattle.border_costs.specs.Solutions.{AreRows}
 use Rattle.plant_model.specs.declared.outcome.Outcome.TheVariants.{Done, Loaded}
 use Rattle.plant_model.specs.declared.outcome.Refused.{Refused}
 use Rattle.plant_model.specs.declared.outcome.Refused.TheVariants.{GenerationsFull, NoSuchPeer, NoSuchJob, NoMemory}
-use Rattle.plant_text.specs.declared.settings.NetworkParts.{NetworkParts}
 use Rattle.plant_model.specs.declared.event.Event.{Event}
 use Rattle.plant_model.specs.declared.event.Event.TheVariants as event
 use Rattle.plant_text.specs.Names.{same_as, parent_as}

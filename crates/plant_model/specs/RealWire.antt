@@ -1,12 +1,8 @@
 -- The wire of PCEP as a codec: its messages, its frames, its refusals and its words.
 use Rattle.std.specs.Prelude.{ℕ, Option, Some, None, Result, Ok, Err}
-use Rattle.dom_base.specs.declared.names.As.{As}
+use Rattle.plant_model.specs.Types.{As, Message, Asked, Bad, Wish}
 use Rattle.dom_base.specs.Words.{units, word_of}
 use Rattle.pcep_codes.specs.declared.errors.TheConstants as errors
-use Rattle.pcep_messages.specs.declared.message.Message.{Message}
-use Rattle.pcep_messages.specs.declared.message.Asked.{Asked}
-use Rattle.pcep_messages.specs.declared.message.Bad.{Bad}
-use Rattle.pcep_messages.specs.declared.message.Wish.{Wish}
 use Rattle.pcep_messages.specs.Messages.{message_of}
 use Rattle.pcep_messages.specs.Spelling.{message_text}
 use Rattle.pcep_messages.specs.Splitting.{split_of}

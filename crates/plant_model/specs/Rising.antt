@@ -1,6 +1,6 @@
 -- Lists of addresses in rising order, each once.
 use Rattle.std.specs.Prelude.{Bool, true, false, cond, nat_lt, List, [], ◌∷◌}
-use Rattle.dom_base.specs.declared.addr.Addr.{Addr}
+use Rattle.plant_model.specs.Types.{Addr}
 use Rattle.dom_base.specs.AddrOrder.{rank}
 use Rattle.plant_model.specs.Names.{same_addr}
 

@@ -1,15 +1,10 @@
 -- To which peer requests for a domain go: to its own element, or to an outside peer that paths may go on through.
 use Rattle.std.specs.Prelude.{◌≡◌, ℕ, suc, true, false, cond, All, Contains, List, [], ◌∷◌, ◌++◌, Some}
 use Rattle.std.specs.List.{AllByRecursion}
-use Rattle.dom_base.specs.declared.names.As.{As}
-use Rattle.dom_base.specs.declared.names.Peer.{Peer}
-use Rattle.dom_base.specs.declared.names.Peer.TheVariants.{Outside, Inner}
-use Rattle.disclosure.specs.declared.class.Class.{Class}
+use Rattle.plant_model.specs.Types.{As, Peer, Outside, Inner, Class, NetworkParts, PeerRow}
 use Rattle.disclosure.specs.declared.class.Class.TheVariants.{Client, Neighbour, Parent}
 use Rattle.plant_text.specs.Names.{same_as}
 use Rattle.plant_text.specs.Settings.{peer_row}
-use Rattle.plant_text.specs.declared.settings.NetworkParts.{NetworkParts}
-use Rattle.plant_text.specs.declared.settings.PeerRow.{PeerRow}
 use Rattle.plant_model.specs.declared.route.Route.{Route}
 
 -- the peer that is asked for a domain: that of the first route there, else the domain's own element

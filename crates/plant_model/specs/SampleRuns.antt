@@ -1,22 +1,15 @@
 -- Runs of sample networks, and what comes of them.
 use Rattle.std.specs.Prelude.{◌≡◌, ℕ, ◌+◌, Bool, nat_eq, true, false, List, [], ◌∷◌, ◌++◌, Option, Some, None, option_map}
 use Rattle.std.specs.Map.{lookup}
-use Rattle.dom_base.specs.declared.names.As.{As}
+use Rattle.plant_model.specs.Types.{As, Link, Hop, Message, Path, Best, NetworkParts, ElementRow}
 use Rattle.dom_base.specs.declared.addr.Addr.TheVariants.{V4, V6}
-use Rattle.dom_base.specs.declared.link.Link.{Link}
 use Rattle.te_links.specs.Rows.{Rows}
 use Rattle.pcep_objects.specs.declared.object.Body.TheVariants as bodies
-use Rattle.pcep_subobjects.specs.declared.hop.Hop.{Hop}
 use Rattle.pcep_subobjects.specs.declared.hop.Hop.TheVariants.{Key}
 use Rattle.pcep_subobjects.specs.Hops.{strict_hop}
-use Rattle.pcep_messages.specs.declared.message.Message.{Message}
 use Rattle.pcep_messages.specs.declared.message.Message.TheVariants as messages
 use Rattle.pcep_messages.specs.declared.message.Answer.TheVariants.{Paths, NoPath}
-use Rattle.pcep_messages.specs.declared.message.Path.{Path}
 use Rattle.disclosure.specs.declared.class.Class.TheVariants.{Client, Neighbour}
-use Rattle.vspt_tree.specs.declared.branch.Best.{Best}
-use Rattle.plant_text.specs.declared.settings.NetworkParts.{NetworkParts}
-use Rattle.plant_text.specs.declared.settings.ElementRow.{ElementRow}
 use Rattle.plant_model.specs.declared.event.Event.TheVariants as event
 use Rattle.plant_model.specs.Writing.{needed, reply_message, unavailable, no_key}
 use Rattle.plant_model.specs.RealWire.{wire}

@@ -1,20 +1,10 @@
 -- Sample runs over the wire of PCEP: events, solved jobs with what they find, and what outside peers are answered.
 use Rattle.std.specs.Prelude.{ℕ, nat_eq, List, [], ◌∷◌, ◌++◌, Bool, false, Option, Some, None}
 use Rattle.std.specs.Map.{lookup}
-use Rattle.dom_base.specs.declared.names.As.{As}
-use Rattle.dom_base.specs.declared.names.Tick.{Tick}
-use Rattle.dom_base.specs.declared.addr.Addr.{Addr}
-use Rattle.dom_base.specs.declared.names.Peer.{Peer}
-use Rattle.dom_base.specs.declared.names.Peer.TheVariants.{Outside, Inner}
+use Rattle.plant_model.specs.Types.{As, Tick, Addr, Peer, Outside, Inner, Message, Wanted, Held, Best, Branch, NetworkParts}
 use Rattle.dom_base.specs.declared.query.Metric.TheVariants.{Te}
-use Rattle.pcep_messages.specs.declared.message.Message.{Message}
 use Rattle.pcep_messages.specs.declared.message.Message.TheVariants as messages
-use Rattle.pcep_messages.specs.declared.message.Wanted.{Wanted}
-use Rattle.request_table.specs.declared.held.Held.{Held}
-use Rattle.vspt_tree.specs.declared.branch.Best.{Best}
-use Rattle.vspt_tree.specs.declared.branch.Branch.{Branch}
 use Rattle.border_costs.specs.declared.answer.Answer.{Answer}
-use Rattle.plant_text.specs.declared.settings.NetworkParts.{NetworkParts}
 use Rattle.plant_model.specs.declared.event.Event.{Event}
 use Rattle.plant_model.specs.declared.event.Event.TheVariants as event
 use Rattle.plant_model.specs.declared.output.Output.{Output}

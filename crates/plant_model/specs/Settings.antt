@@ -1,11 +1,7 @@
 -- What the settings say of an element and of the parent: its place, and the peers to which it sends requests.
 use Rattle.std.specs.Prelude.{cond, List, [], ◌∷◌, ◌++◌, map, Option, Some, None, false}
-use Rattle.dom_base.specs.declared.names.As.{As}
+use Rattle.plant_model.specs.Types.{As, Deny, NetworkParts, ElementRow, Outside, Inner}
 use Rattle.dom_base.specs.declared.addr.Addr.TheVariants.{V4}
-use Rattle.dom_base.specs.declared.names.Peer.TheVariants.{Outside, Inner}
-use Rattle.disclosure.specs.declared.class.Deny.{Deny}
-use Rattle.plant_text.specs.declared.settings.NetworkParts.{NetworkParts}
-use Rattle.plant_text.specs.declared.settings.ElementRow.{ElementRow}
 use Rattle.plant_text.specs.Names.{same_as}
 use Rattle.plant_text.specs.Settings.{row_of, deny_at, children, Adjacency, adjacencies}
 use Rattle.plant_model.specs.declared.route.Route.{Route}

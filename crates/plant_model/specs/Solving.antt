@@ -1,12 +1,7 @@
 -- An element answers a job that was solved: an open path to a client, closed branches to the others.
 use Rattle.std.specs.Prelude.{ℕ, Bool, true, cond, nat_lt, ◌-◌, List, [], ◌∷◌, length}
-use Rattle.dom_base.specs.declared.addr.Addr.{Addr}
-use Rattle.dom_base.specs.declared.query.Metric.{Metric}
-use Rattle.pcep_messages.specs.declared.message.Message.{Message}
-use Rattle.pcep_messages.specs.declared.message.Path.{Path}
+use Rattle.plant_model.specs.Types.{Addr, Metric, Message, Path, Best, Branch}
 use Rattle.pcep_messages.specs.declared.message.Answer.TheVariants.{Paths}
-use Rattle.vspt_tree.specs.declared.branch.Best.{Best}
-use Rattle.vspt_tree.specs.declared.branch.Branch.{Branch}
 use Rattle.path_keys.specs.Keys.{Keys, live_most, live_at, issue_of, number_after}
 use Rattle.plant_model.specs.Wire.{Codec}
 use Rattle.plant_model.specs.Writing.{reply_message, busy, no_path, none_between}

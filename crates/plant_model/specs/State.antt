@@ -1,16 +1,11 @@
 -- The state of a network, and what its transcript is made of.
 use Rattle.std.specs.Prelude.{ℕ, List, [], ◌∷◌, ◌++◌, Option}
-use Rattle.dom_base.specs.declared.names.As.{As}
-use Rattle.dom_base.specs.declared.names.Peer.{Peer}
+use Rattle.plant_model.specs.Types.{As, Peer, Message, Sent, Issued, State as Session}
 use Rattle.te_links.specs.Rows.{Rows}
-use Rattle.pcep_messages.specs.declared.message.Message.{Message}
 use Rattle.plant_model.specs.declared.output.Output.{Output}
-use Rattle.plant_queues.specs.declared.sent.Sent.{Sent}
 use Rattle.plant_model.specs.Wire.{Bytes, Codec}
-use Rattle.path_keys.specs.declared.issued.Issued.{Issued}
 use Rattle.plant_model.specs.Element.{Element}
 use Rattle.plant_model.specs.Parent.{Parent}
-use Rattle.pcep_session.specs.declared.state.State.{State as Session}
 use Rattle.pcep_framing.specs.Frames.{Framing}
 
 -- An open outside peer. An item of the inbox is a message, or the place of a bad header.

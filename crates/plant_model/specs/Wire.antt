@@ -1,9 +1,6 @@
 -- What a network takes from the wire: the text of a message and its reading, frames, refusals and words.
 use Rattle.std.specs.Prelude.{ℕ, List, Option}
-use Rattle.dom_base.specs.declared.names.As.{As}
-use Rattle.pcep_messages.specs.declared.message.Message.{Message}
-use Rattle.pcep_messages.specs.declared.message.Asked.{Asked}
-use Rattle.pcep_messages.specs.declared.message.Request.{Request}
+use Rattle.plant_model.specs.Types.{As, Message, Asked, Request}
 use Rattle.pcep_framing.specs.Frames.{Framing}
 use Rattle.pcep_framing.specs.Feeding.{Progress}
 

@@ -1,26 +1,16 @@
 -- The messages that elements and the parent write (RFC 5440, sections 6 and 7).
 use Rattle.std.specs.Prelude.{ℕ, ◌+◌, Bool, true, false, List, [], ◌∷◌, ◌++◌, map, Option, Some, None}
-use Rattle.dom_base.specs.declared.names.As.{As}
-use Rattle.dom_base.specs.declared.addr.Addr.{Addr}
+use Rattle.plant_model.specs.Types.{As, Addr, Metric, Exclusion, Hop, Object, Body, Message, Asked, Answer, Wanted}
 use Rattle.dom_base.specs.declared.addr.Addr.TheVariants.{V4, V6}
-use Rattle.dom_base.specs.declared.query.Metric.{Metric}
-use Rattle.dom_base.specs.declared.query.Exclusion.{Exclusion}
 use Rattle.pcep_codes.specs.declared.classes.TheConstants as classes
 use Rattle.pcep_codes.specs.declared.kinds.TheConstants as kinds
 use Rattle.pcep_codes.specs.declared.flags.TheConstants as flags
 use Rattle.pcep_codes.specs.declared.no_paths.TheConstants as no_paths
 use Rattle.pcep_codes.specs.declared.notices.TheConstants as notices
-use Rattle.pcep_subobjects.specs.declared.hop.Hop.{Hop}
 use Rattle.pcep_subobjects.specs.declared.hop.Hop.TheVariants.{AsNumber}
-use Rattle.pcep_objects.specs.declared.object.Object.{Object}
-use Rattle.pcep_objects.specs.declared.object.Body.{Body}
 use Rattle.pcep_objects.specs.declared.object.Body.TheVariants as bodies
-use Rattle.pcep_messages.specs.declared.message.Message.{Message}
 use Rattle.pcep_messages.specs.declared.message.Message.TheVariants as messages
-use Rattle.pcep_messages.specs.declared.message.Asked.{Asked}
-use Rattle.pcep_messages.specs.declared.message.Answer.{Answer}
 use Rattle.pcep_messages.specs.declared.message.Answer.TheVariants.{NoPath}
-use Rattle.pcep_messages.specs.declared.message.Wanted.{Wanted}
 use Rattle.pcep_messages.specs.Requests.{type_of_metric}
 
 abbrev pub as_hop : As → Hop

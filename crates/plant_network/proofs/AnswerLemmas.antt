@@ -1,15 +1,10 @@
 -- A member that answers a pending request sends one message, to its asker, and the request ends.
 use Rattle.std.proofs.Common.{◌≡◌, ◌≤◌, ℕ, Bool, true, false, cond, nat_eq, nat_lt, Option, Some, None, List, [], ◌∷◌, length, refl, sym, subst}
 use Rattle.std.specs.Map.{lookup}
-use Rattle.dom_base.specs.declared.names.As.{As}
+use Rattle.network_events.specs.plant_model.Types.{As, Message, Held as Asked, Best, Branch, NetworkParts}
 use Rattle.pcep_messages.specs.declared.message.Answer.TheVariants.{Paths}
-use Rattle.pcep_messages.specs.declared.message.Message.{Message}
-use Rattle.request_table.specs.declared.held.Held.{Held as Asked}
 use Rattle.request_table.specs.Pending.{closed_of}
 use Rattle.request_table.proofs.KeyLemmas.{same_peer_self}
-use Rattle.vspt_tree.specs.declared.branch.Best.{Best}
-use Rattle.vspt_tree.specs.declared.branch.Branch.{Branch}
-use Rattle.plant_text.specs.declared.settings.NetworkParts.{NetworkParts}
 use Rattle.plant_text.specs.Names.{parent_as, same_as}
 use Rattle.network_events.specs.plant_model.declared.output.Output.{Output}
 use Rattle.network_events.specs.plant_model.BorderGraph.{Found}

@@ -1,11 +1,6 @@
 -- A network that has just been made.
 use Rattle.std.proofs.Common.{◌≡◌, ◌+◌, ℕ, None, Result, Ok, Err, OnOk, Bool, true, false, cond, List, [], ◌∷◌, length, refl, sym, ◌∙◌, ap, ap₂, subst}
-use Rattle.dom_base.specs.declared.names.As.{As}
-use Rattle.dom_base.specs.declared.names.NoMemory.{NoMemory}
-use Rattle.dom_base.specs.declared.names.Peer.{Peer}
-use Rattle.pcep_subobjects.specs.declared.hop.Hop.{Hop}
-use Rattle.pcep_session.specs.declared.state.State.{State as Session}
-use Rattle.plant_text.specs.declared.settings.NetworkParts.{NetworkParts}
+use Rattle.network_events.specs.plant_model.Types.{As, NoMemory, Peer, Hop, State as Session, NetworkParts}
 use Rattle.plant_text.specs.Names.{same_as, parent_as}
 use Rattle.plant_text.specs.Networks.{ObeysRules}
 use Rattle.plant_text.specs.Settings.{adjacencies}

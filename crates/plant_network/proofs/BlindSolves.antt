@@ -1,8 +1,6 @@
 -- A member that answers a request by given rows is the model's solve.
 use Rattle.std.proofs.Common.{◌≡◌, ℕ, true, Ok, Err, List, [], ◌∷◌, inl, inr, refl, sym, ◌∙◌, ap, subst}
-use Rattle.dom_base.specs.declared.names.As.{As}
-use Rattle.dom_base.specs.declared.border.BorderRow.{BorderRow}
-use Rattle.plant_text.specs.declared.settings.NetworkParts.{NetworkParts}
+use Rattle.network_events.specs.plant_model.Types.{As, BorderRow, NetworkParts}
 use Rattle.plant_text.specs.Names.{parent_as}
 use Rattle.network_events.specs.plant_model.declared.event.BlindEvent.TheVariants.{Solve}
 use Rattle.network_events.specs.plant_model.declared.outcome.Outcome.TheVariants as outcome

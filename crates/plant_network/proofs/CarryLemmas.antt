@@ -2,9 +2,7 @@
 use Rattle.std.proofs.Common.{◌≡◌, Bool, true, false, not, cond, List, [], ◌∷◌, All, Contains, Some, None, inl, inr, sym, subst, ap, refl}
 use Rattle.std.proofs.lemmas.Bool.{eq-eqb, eqb-true}
 use Rattle.border_costs.proofs.Members.{contains_cases, contains_none}
-use Rattle.dom_base.specs.declared.names.As.{As}
-use Rattle.pcep_subobjects.specs.declared.hop.Hop.{Hop}
-use Rattle.plant_text.specs.declared.settings.NetworkParts.{NetworkParts}
+use Rattle.network_events.specs.plant_model.Types.{As, Hop, NetworkParts}
 use Rattle.plant_text.specs.Names.{same_as, same_link}
 use Rattle.plant_text.specs.Settings.{Adjacency, has_adjacency, is_linked, adjacencies}
 use Rattle.network_events.specs.plant_model.declared.outcome.Refused.TheVariants as refused

@@ -2,7 +2,7 @@
 use Rattle.std.proofs.Common.{◌≡◌, ◌∙◌, List, [], ◌∷◌, ◌++◌, append_assoc, ap₂, refl, subst, sym}
 use Rattle.std.specs.Prelude.{map}
 use Rattle.std.proofs.lemmas.List.{map-append}
-use Rattle.plant_text.specs.declared.settings.NetworkParts.{NetworkParts}
+use Rattle.network_events.specs.plant_model.Types.{NetworkParts}
 use Rattle.network_events.specs.plant_model.declared.event.Event.{Event}
 use Rattle.network_events.specs.plant_model.Events.{Answered}
 use Rattle.network_events.specs.plant_model.Plant.{Entry, IsGiven, Run}

@@ -1,17 +1,9 @@
 -- The inbox of an outside peer: each take that is accepted leaves less in it, and one is refused where it is empty.
 use Rattle.std.proofs.Common.{◌≡◌, ℕ, ◌<◌, ◌≤◌, Bool, true, false, cond, ◌==◌, List, [], ◌∷◌, length, Option, Some, None, sym, subst, refl, arith}
 use Rattle.std.proofs.lemmas.Bool.{eqb-true, eq-eqb}
-use Rattle.dom_base.specs.declared.names.As.{As}
-use Rattle.dom_base.specs.declared.names.Peer.{Peer}
-use Rattle.dom_base.specs.declared.names.Peer.TheVariants.{Outside, Inner}
-use Rattle.pcep_subobjects.specs.declared.hop.Hop.{Hop}
-use Rattle.pcep_messages.specs.declared.message.Message.{Message}
-use Rattle.pcep_session.specs.declared.session.Input.{Input}
-use Rattle.pcep_session.specs.declared.actions.Action.{Action}
-use Rattle.pcep_session.specs.declared.actions.Own.{Own}
+use Rattle.network_events.specs.plant_model.Types.{As, Peer, Outside, Inner, Hop, Message, Input, Action, Own, NetworkParts}
 use Rattle.pcep_session.specs.declared.actions.Action.TheVariants as action
 use Rattle.pcep_session.specs.Table.{turn_of}
-use Rattle.plant_text.specs.declared.settings.NetworkParts.{NetworkParts}
 use Rattle.plant_text.specs.Names.{same_as, parent_as}
 use Rattle.plant_text.specs.Settings.{class_of}
 use Rattle.network_events.specs.plant_model.declared.output.Output.{Output}

@@ -3,13 +3,8 @@ use Rattle.std.proofs.Common.{◌≡◌, ℕ, Bool, true, false, cond, nat_eq, o
 use Rattle.std.specs.Prelude.{IfOk, IfSome}
 use Rattle.std.specs.Arc.{arc_value}
 use Rattle.std.specs.Map.{lookup}
-use Rattle.dom_base.specs.declared.names.As.{As}
-use Rattle.dom_base.specs.declared.names.NoMemory.{NoMemory}
-use Rattle.request_table.specs.declared.held.Held.{Held as Asked}
-use Rattle.vspt_tree.specs.declared.branch.Branch.{Branch}
+use Rattle.network_events.specs.plant_model.Types.{As, NoMemory, Held as Asked, Branch, Ask, Job}
 use Rattle.border_costs.specs.Solutions.{Solution}
-use Rattle.border_costs.specs.declared.job.Ask.{Ask}
-use Rattle.border_costs.specs.declared.job.Job.{Job}
 use Rattle.plant_text.specs.Names.{same_as, parent_as}
 use Rattle.network_events.specs.plant_model.declared.upper.BorderJob.{BorderJob}
 use Rattle.network_events.specs.plant_model.Element.{Element, Item, Stage, Waits, Ready}

@@ -1,8 +1,7 @@
 -- An element of a network loads a topology.
 use Rattle.std.proofs.Common.{◌≡◌, ℕ, ◌+◌, ◌*◌, length, Result, Ok, Err, List, [], ◌∷◌, refl, sym, ◌∙◌, ap, ap₂, subst}
-use Rattle.dom_base.specs.declared.names.As.{As}
+use Rattle.network_events.specs.plant_model.Types.{As, NetworkParts}
 use Rattle.te_links.specs.Rows.{Rows}
-use Rattle.plant_text.specs.declared.settings.NetworkParts.{NetworkParts}
 use Rattle.network_events.specs.plant_model.declared.event.Event.TheVariants as event
 use Rattle.network_events.specs.plant_model.declared.outcome.Refused.{Refused}
 use Rattle.network_events.specs.plant_model.Element.{Element}

@@ -3,14 +3,9 @@ use Rattle.std.proofs.Common.{◌≡◌, ◌<◌, ℕ, zero, suc, Bool, true, fa
 use Rattle.std.specs.Prelude.{IfSome, filter, slice_get}
 use Rattle.std.specs.Map.{lookup}
 use Rattle.std.proofs.lemmas.Bool.{cases_Bool, eq-eqb, eqb-true, ne_eqb}
-use Rattle.dom_base.specs.declared.names.As.{As}
-use Rattle.dom_base.specs.declared.names.Peer.{Peer}
-use Rattle.dom_base.specs.declared.names.Peer.TheVariants.{Outside, Inner}
-use Rattle.request_table.specs.declared.held.Held.{Held as Asked}
+use Rattle.network_events.specs.plant_model.Types.{As, Peer, Outside, Inner, Held as Asked, ElementRow, NetworkParts}
 use Rattle.request_table.specs.Pending.{NumbersRise}
 use Rattle.request_table.proofs.KeyLemmas.{same_peer_self}
-use Rattle.plant_text.specs.declared.settings.ElementRow.{ElementRow}
-use Rattle.plant_text.specs.declared.settings.NetworkParts.{NetworkParts}
 use Rattle.plant_text.specs.Names.{insert_as, parent_as, same_as}
 use Rattle.plant_text.specs.Settings.{elements_of, has_adjacency, is_element, adjacencies, row_of}
 use Rattle.network_events.specs.plant_model.Deeds.{element_of}

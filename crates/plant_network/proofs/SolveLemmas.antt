@@ -1,9 +1,8 @@
 -- A member that answers a solved job is the model's solve.
 use Rattle.std.proofs.Common.{◌≡◌, ℕ, true, Result, Ok, Err, List, [], ◌∷◌, inl, inr, refl, sym, ◌∙◌, ap, subst}
 use Rattle.std.specs.Prelude.{MatchResult, IsErrAnd}
-use Rattle.dom_base.specs.declared.names.As.{As}
+use Rattle.network_events.specs.plant_model.Types.{As, NetworkParts}
 use Rattle.disclosure.specs.Shown.{open_of}
-use Rattle.plant_text.specs.declared.settings.NetworkParts.{NetworkParts}
 use Rattle.plant_text.specs.Names.{parent_as}
 use Rattle.network_events.specs.plant_model.declared.event.Event.TheVariants.{Solve}
 use Rattle.network_events.specs.plant_model.declared.outcome.Outcome.{Outcome}

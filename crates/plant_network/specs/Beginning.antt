@@ -1,8 +1,6 @@
 -- A network that has just been made.
 use Rattle.std.specs.Prelude.{◌≡◌, List, []}
-use Rattle.dom_base.specs.declared.names.As.{As}
-use Rattle.pcep_subobjects.specs.declared.hop.Hop.{Hop}
-use Rattle.plant_text.specs.declared.settings.NetworkParts.{NetworkParts}
+use Rattle.network_events.specs.plant_model.Types.{As, Hop, NetworkParts}
 use Rattle.network_events.specs.plant_model.Events.{bare, opening}
 use Rattle.network_events.specs.plant_model.RealWire.{wire}
 use Rattle.network_events.specs.pce_common.Membership.{Membership}

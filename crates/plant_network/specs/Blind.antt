@@ -1,6 +1,6 @@
 -- A network without topologies: what it holds, what its callers see of it, and what an event leaves.
 use Rattle.std.specs.Prelude.{◌≡◌, []}
-use Rattle.plant_text.specs.declared.settings.NetworkParts.{NetworkParts}
+use Rattle.network_events.specs.plant_model.Types.{NetworkParts}
 use Rattle.network_events.specs.plant_model.declared.event.BlindEvent.{BlindEvent}
 use Rattle.network_events.specs.plant_model.Blind.{BlindSteps, Nothing, blind_opened}
 use Rattle.network_events.specs.plant_model.Events.{Answered}

@@ -1,6 +1,6 @@
 -- The current topology of an element of a network.
 use Rattle.std.specs.Prelude.{Option}
-use Rattle.dom_base.specs.declared.names.As.{As}
+use Rattle.network_events.specs.plant_model.Types.{As}
 use Rattle.network_events.specs.plant_model.Plant.{Pin}
 use Rattle.network_members.specs.Current as hierarchy
 use Rattle.plant_network.specs.Whole.{Whole}

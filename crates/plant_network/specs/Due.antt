@@ -1,7 +1,6 @@
 -- What is due in a network that goes on by itself, whatever a pin is and a key stands for.
 use Rattle.std.specs.Prelude.{◌≡◌, ℕ, Bool, true, false, not, List, [], All, Contains, Option, Some, None}
-use Rattle.dom_base.specs.declared.names.As.{As}
-use Rattle.plant_text.specs.declared.settings.NetworkParts.{NetworkParts}
+use Rattle.network_events.specs.plant_model.Types.{As, NetworkParts}
 use Rattle.plant_text.specs.Settings.{adjacencies}
 use Rattle.network_events.specs.plant_model.Names.{is_empty}
 use Rattle.network_events.specs.plant_model.State.{Connection, State}

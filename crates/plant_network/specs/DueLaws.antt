@@ -1,8 +1,6 @@
 -- What is due is possible, and what is done of it leaves less.
 use Rattle.std.specs.Prelude.{◌≡◌, ◌<◌, ℕ, true, false, List, [], length}
-use Rattle.dom_base.specs.declared.names.As.{As}
-use Rattle.pcep_subobjects.specs.declared.hop.Hop.{Hop}
-use Rattle.plant_text.specs.declared.settings.NetworkParts.{NetworkParts}
+use Rattle.network_events.specs.plant_model.Types.{As, Hop, NetworkParts}
 use Rattle.network_events.specs.plant_model.Blind.{is_accepted}
 use Rattle.network_events.specs.plant_model.Events.{Happened, carry, take}
 use Rattle.network_events.specs.plant_model.State.{State}

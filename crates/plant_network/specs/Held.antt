@@ -1,5 +1,5 @@
 -- What a network holds, whatever a pin is and a key stands for: its members, and what is on its way between them.
-use Rattle.dom_base.specs.declared.names.As.{As}
+use Rattle.network_events.specs.plant_model.Types.{As}
 use Rattle.network_events.specs.plant_model.Events.{Answered}
 use Rattle.network_events.specs.network_links.Carried.{Carried, flow_of}
 use Rattle.network_events.specs.Standing.{Here, here}

@@ -2,11 +2,8 @@
 use Rattle.std.specs.Prelude.{◌≡◌, ℕ, nat_eq, true, false, List, Option, Some, None, Result, Ok, Err}
 use Rattle.std.specs.Arc.{arc_value}
 use Rattle.std.specs.Map.{lookup}
-use Rattle.dom_base.specs.declared.names.As.{As}
+use Rattle.network_events.specs.plant_model.Types.{As, Held as Asked, Branch, Ask}
 use Rattle.te_links.specs.Rows.{Rows}
-use Rattle.request_table.specs.declared.held.Held.{Held as Asked}
-use Rattle.vspt_tree.specs.declared.branch.Branch.{Branch}
-use Rattle.border_costs.specs.declared.job.Ask.{Ask}
 use Rattle.plant_text.specs.Names.{same_as, parent_as}
 use Rattle.network_events.specs.plant_model.declared.outcome.Outcome.{Outcome}
 use Rattle.network_events.specs.plant_model.declared.upper.BorderJob.{BorderJob}

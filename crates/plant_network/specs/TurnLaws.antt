@@ -2,14 +2,9 @@
 use Rattle.std.proofs.Common.{◌≡◌, ◌∙◌, ℕ, false, List, [], ◌∷◌, Some, refl, ap, sym, subst}
 use Rattle.std.specs.Prelude.{Ok}
 use Rattle.std.specs.Arc.{arc_value}
-use Rattle.dom_base.specs.declared.names.As.{As}
+use Rattle.network_events.specs.plant_model.Types.{As, Held as Asked, Branch, Ask, Job, NetworkParts}
 use Rattle.te_links.specs.Rows.{Rows}
-use Rattle.request_table.specs.declared.held.Held.{Held as Asked}
-use Rattle.vspt_tree.specs.declared.branch.Branch.{Branch}
-use Rattle.border_costs.specs.declared.job.Ask.{Ask}
-use Rattle.border_costs.specs.declared.job.Job.{Job}
 use Rattle.border_costs.specs.Solutions.{Solution}
-use Rattle.plant_text.specs.declared.settings.NetworkParts.{NetworkParts}
 use Rattle.plant_text.specs.Names.{same_as, parent_as}
 use Rattle.network_events.specs.plant_model.declared.upper.BorderJob.{BorderJob}
 use Rattle.network_events.specs.plant_model.Element.{Item, Ready as CanSolve, Stage, Waits, is_ready}

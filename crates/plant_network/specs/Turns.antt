@@ -2,8 +2,7 @@
 use Rattle.std.specs.Prelude.{◌≡◌, ℕ, Option, Some, Result, Ok, IfOk, IfErr, IfSome, slice_get}
 use Rattle.std.specs.Arc.{arc_value}
 use Rattle.std.specs.Option.{option_map}
-use Rattle.dom_base.specs.declared.names.As.{As}
-use Rattle.dom_base.specs.declared.names.NoMemory.{NoMemory}
+use Rattle.network_events.specs.plant_model.Types.{As, NoMemory}
 use Rattle.network_events.specs.plant_model.declared.event.Event.{Event}
 use Rattle.network_events.specs.plant_model.declared.event.Event.TheVariants.{Solve}
 use Rattle.network_events.specs.plant_model.Events.{Answered, ready_jobs}

@@ -1,6 +1,6 @@
 -- A network with topologies as its callers see it, and what an event leaves.
 use Rattle.std.specs.Prelude.{◌≡◌, List, [], ◌∷◌}
-use Rattle.plant_text.specs.declared.settings.NetworkParts.{NetworkParts}
+use Rattle.network_events.specs.plant_model.Types.{NetworkParts}
 use Rattle.network_events.specs.plant_model.declared.event.Event.{Event}
 use Rattle.network_events.specs.plant_model.declared.event.Event.TheVariants as event
 use Rattle.network_events.specs.plant_model.Events.{Answered}

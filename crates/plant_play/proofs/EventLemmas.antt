@@ -1,14 +1,8 @@
 -- An event that was done, and what is shown and told of it.
 use Rattle.std.proofs.Common.{◌≡◌, ℕ, Bool, true, false, not, cond, ◌&&◌, ◌||◌, List, [], ◌∷◌, ◌++◌, Option, Some, None, Ok, Err, inl, inr, sym, ◌∙◌, subst, ap, refl, OnOk}
 use Rattle.std.specs.Arc.{arc_value}
-use Rattle.dom_base.specs.declared.names.As.{As}
-use Rattle.dom_base.specs.declared.border.BorderRow.{BorderRow}
+use Rattle.plant_network.specs.plant_model.Types.{As, BorderRow, Certificate, Ask, Job, Sent, NetworkParts}
 use Rattle.te_links.specs.Rows.{Rows}
-use Rattle.path_certificate.specs.declared.certificate.Certificate.{Certificate}
-use Rattle.border_costs.specs.declared.job.Ask.{Ask}
-use Rattle.border_costs.specs.declared.job.Job.{Job}
-use Rattle.plant_queues.specs.declared.sent.Sent.{Sent}
-use Rattle.plant_text.specs.declared.settings.NetworkParts.{NetworkParts}
 use Rattle.plant_text.specs.Names.{same_as, parent_as}
 use Rattle.plant_network.specs.plant_model.declared.event.Event.{Event}
 use Rattle.plant_network.specs.plant_model.declared.event.Event.TheVariants as event

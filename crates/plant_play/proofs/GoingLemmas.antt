@@ -1,8 +1,7 @@
 -- A network that goes on by itself: what is due is possible, and what is due no more is done.
 use Rattle.std.proofs.Common.{◌≡◌, ◌<◌, ◌+◌, ℕ, suc, arith, Bool, true, false, not, cond, length, List, [], ◌∷◌, Option, Some, None, Err, inl, inr, sym, ◌∙◌, subst, ap, refl}
-use Rattle.dom_base.specs.declared.names.As.{As}
+use Rattle.plant_network.specs.plant_model.Types.{As, NetworkParts}
 use Rattle.disclosure.specs.Shown.{open_of}
-use Rattle.plant_text.specs.declared.settings.NetworkParts.{NetworkParts}
 use Rattle.plant_network.specs.plant_model.declared.event.Event.{Event}
 use Rattle.plant_network.specs.plant_model.declared.event.Event.TheVariants as event
 use Rattle.plant_network.specs.plant_model.declared.outcome.Refused.TheVariants as refused

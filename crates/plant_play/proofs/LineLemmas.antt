@@ -1,12 +1,11 @@
 -- Lines that load a topology.
 use Rattle.std.proofs.Common.{◌≡◌, ℕ, Bool, cond, List, Some, Ok, Err, sym, ◌∙◌, subst, ap, Result, IfOk}
-use Rattle.dom_base.specs.declared.names.As.{As}
+use Rattle.plant_network.specs.plant_model.Types.{As, LineEvent}
 use Rattle.te_links.specs.Rows.{IsInOrder, IsTopology, Rows}
 use Rattle.te_text.specs.Reads.{Reads}
 use Rattle.te_deltas.specs.Answers.{IsBuiltOf}
 use Rattle.te_deltas.specs.ChangeText.{text_in}
 use Rattle.te_deltas.specs.declared.changes.Change.{Change}
-use Rattle.plant_text.specs.declared.line.LineEvent.{LineEvent}
 use Rattle.plant_network.specs.plant_model.declared.event.Event.TheVariants as event
 use Rattle.plant_network.specs.plant_model.declared.outcome.Refused.TheVariants.{NoSuchPeer}
 use Rattle.plant_network.specs.plant_model.Events.{Answered}

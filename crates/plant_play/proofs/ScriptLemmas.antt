@@ -6,8 +6,7 @@ use Rattle.std.specs.Io.KnownBytes.{Appends, Keeps}
 use Rattle.dom_edge.specs.Stores.{Files}
 use Rattle.dom_edge.specs.Whole.{AppendsSome}
 use Rattle.line_text.specs.Lines.{NumberedLine, told_lines}
-use Rattle.plant_text.specs.declared.settings.NetworkParts.{NetworkParts}
-use Rattle.plant_text.specs.declared.line.LineEvent.{LineEvent}
+use Rattle.plant_network.specs.plant_model.Types.{NetworkParts, LineEvent}
 use Rattle.plant_network.specs.plant_model.Plant.{opened}
 use Rattle.plant_network.specs.plant_model.RealWire.{wire}
 use Rattle.plant_play.specs.Playing.{IsNewNetwork, PlayedNetwork}

@@ -2,8 +2,7 @@
 use Rattle.std.specs.Prelude.{◌≡◌, ◌≤◌, ℕ, List, [], length, Option, Some, None}
 use Rattle.dom_edge.specs.Causes.{Rose}
 use Rattle.dom_edge.specs.Stores.{Files, HasFile, IfFile, IsLongFile}
-use Rattle.plant_text.specs.declared.fault.NetFault.{NetFault}
-use Rattle.plant_text.specs.declared.line.LineEvent.{LineEvent}
+use Rattle.plant_network.specs.plant_model.Types.{NetFault, LineEvent}
 use Rattle.plant_text.specs.declared.line.LineEvent.TheVariants as line
 use Rattle.plant_network.specs.plant_model.Events.{Answered}
 use Rattle.network_files.specs.declared.error.FileError.TheVariants as play

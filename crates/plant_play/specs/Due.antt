@@ -1,7 +1,6 @@
 -- What is due in a network with topologies that goes on by itself, and events that are due one after the other.
 use Rattle.std.specs.Prelude.{◌≡◌, ℕ, true, List, [], ◌∷◌, Option, Some, None, slice_get}
-use Rattle.dom_base.specs.declared.names.As.{As}
-use Rattle.plant_text.specs.declared.settings.NetworkParts.{NetworkParts}
+use Rattle.plant_network.specs.plant_model.Types.{As, NetworkParts}
 use Rattle.plant_network.specs.plant_model.declared.event.Event.{Event}
 use Rattle.plant_network.specs.plant_model.declared.event.Event.TheVariants as event
 use Rattle.plant_network.specs.plant_model.Blind.{is_accepted}

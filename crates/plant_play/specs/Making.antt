@@ -1,20 +1,12 @@
 -- An event that is done, as the parts that tell it see it.
 use Rattle.std.specs.Prelude.{◌≡◌, ℕ, Bool, true, false, cond, ◌&&◌, ◌||◌, List, [], ◌∷◌, ◌++◌, length, Option, Some, None, Ok, Err, OnOk}
 use Rattle.std.specs.Arc.{arc_value}
-use Rattle.dom_base.specs.declared.names.As.{As}
-use Rattle.dom_base.specs.declared.names.Peer.{Peer}
-use Rattle.dom_base.specs.declared.names.Peer.TheVariants.{Outside, Inner}
-use Rattle.dom_base.specs.declared.border.BorderRow.{BorderRow}
-use Rattle.dom_base.specs.declared.query.Seed.{Seed}
+use Rattle.plant_network.specs.plant_model.Types.{As, Peer, Outside, Inner, BorderRow, Seed, Certificate, Job, Sent, PeerRow}
 use Rattle.plant_network.specs.plant_model.Element.{is_client}
-use Rattle.path_certificate.specs.declared.certificate.Certificate.{Certificate}
-use Rattle.border_costs.specs.declared.job.Job.{Job}
 use Rattle.border_costs.specs.Asks.{AreSeeds}
 use Rattle.border_costs.specs.Solutions.{IsLabelled}
 use Rattle.border_costs.specs.Tables.{IsBorderTable}
-use Rattle.plant_queues.specs.declared.sent.Sent.{Sent}
 use Rattle.plant_text.specs.Names.{same_as, parent_as}
-use Rattle.plant_text.specs.declared.settings.PeerRow.{PeerRow}
 use Rattle.plant_text.specs.Settings.{class_from, peer_row}
 use Rattle.plant_network.specs.plant_model.declared.event.Event.{Event}
 use Rattle.plant_network.specs.plant_model.declared.event.Event.TheVariants as event

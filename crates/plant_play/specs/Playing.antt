@@ -1,14 +1,12 @@
 -- What a line of a script does to a network, event by event, and what is told of it.
 use Rattle.std.specs.Prelude.{◌≡◌, ℕ, true, false, cond, List, [], ◌∷◌, ◌++◌, Option, Some, None, option_map, Ok, Err}
-use Rattle.dom_base.specs.declared.names.As.{As}
+use Rattle.plant_network.specs.plant_model.Types.{As, LineEvent, NetworkParts}
 use Rattle.te_links.specs.Rows.{IsInOrder, IsTopology, Rows}
 use Rattle.te_text.specs.Reads.{Reads}
 use Rattle.te_deltas.specs.Answers.{IsBuiltOf}
 use Rattle.te_deltas.specs.ChangeText.{text_in}
 use Rattle.te_deltas.specs.declared.changes.Change.{Change}
-use Rattle.plant_text.specs.declared.line.LineEvent.{LineEvent}
 use Rattle.plant_text.specs.declared.line.LineEvent.TheVariants as line
-use Rattle.plant_text.specs.declared.settings.NetworkParts.{NetworkParts}
 use Rattle.plant_text.specs.Settings.{is_element}
 use Rattle.plant_network.specs.plant_model.declared.event.Event.{Event}
 use Rattle.plant_network.specs.plant_model.declared.event.Event.TheVariants as event

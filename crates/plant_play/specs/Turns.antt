@@ -1,19 +1,12 @@
 -- An event of a line that is played: what the run has of it, what is shown of the job that it solved, and what is told.
 use Rattle.std.specs.Prelude.{◌≡◌, ℕ, Bool, false, not, cond, ◌&&◌, List, [], ◌∷◌, ◌++◌, Option, Some, None, Ok, Err}
 use Rattle.std.specs.List.{flat_map}
-use Rattle.dom_base.specs.declared.names.As.{As}
-use Rattle.dom_base.specs.declared.border.BorderRow.{BorderRow}
-use Rattle.dom_base.specs.declared.query.Seed.{Seed}
+use Rattle.plant_network.specs.plant_model.Types.{As, BorderRow, Seed, Certificate, Ask, Sent, NetworkParts, PeerRow}
 use Rattle.te_links.specs.Rows.{Rows}
-use Rattle.path_certificate.specs.declared.certificate.Certificate.{Certificate}
-use Rattle.border_costs.specs.declared.job.Ask.{Ask}
 use Rattle.border_costs.specs.Asks.{AreSeeds}
 use Rattle.border_costs.specs.Solutions.{IsLabelled}
 use Rattle.border_costs.specs.Tables.{IsBorderTable}
-use Rattle.plant_queues.specs.declared.sent.Sent.{Sent}
 use Rattle.plant_text.specs.Names.{same_as, parent_as}
-use Rattle.plant_text.specs.declared.settings.NetworkParts.{NetworkParts}
-use Rattle.plant_text.specs.declared.settings.PeerRow.{PeerRow}
 use Rattle.plant_text.specs.Settings.{peer_row}
 use Rattle.plant_network.specs.plant_model.declared.event.Event.{Event}
 use Rattle.plant_network.specs.plant_model.declared.event.Event.TheVariants as event

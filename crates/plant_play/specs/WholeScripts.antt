@@ -5,8 +5,7 @@ use Rattle.dom_edge.specs.Causes.{Rose}
 use Rattle.dom_edge.specs.Stores.{Files}
 use Rattle.dom_edge.specs.Whole.{AppendsSome}
 use Rattle.line_text.specs.Lines.{NumberedLine, told_lines}
-use Rattle.plant_text.specs.declared.line.LineEvent.{LineEvent}
-use Rattle.plant_text.specs.declared.settings.NetworkParts.{NetworkParts}
+use Rattle.plant_network.specs.plant_model.Types.{LineEvent, NetworkParts}
 use Rattle.plant_text.specs.Lines.{line_in}
 use Rattle.plant_network.specs.plant_model.Events.{Answered}
 use Rattle.plant_play.specs.Playing.{Cue, IsNewNetwork, PlaysLine, PlayedNetwork}

@@ -1,8 +1,6 @@
 -- An element, or the parent, may send a neighbour requests exactly where a link leads there and its session with it is open.
 use Rattle.std.specs.Prelude.{◌≡◌, ◌↔◌, true, cond, List}
-use Rattle.dom_base.specs.declared.names.As.{As}
-use Rattle.dom_base.specs.declared.names.Peer.TheVariants.{Inner}
-use Rattle.plant_text.specs.declared.settings.NetworkParts.{NetworkParts}
+use Rattle.plant_laws.specs.plant_model.Types.{As, NetworkParts, Inner}
 use Rattle.plant_text.specs.Names.{same_as, parent_as}
 use Rattle.plant_text.specs.Settings.{is_linked}
 use Rattle.plant_laws.specs.plant_model.Wire.{Codec}

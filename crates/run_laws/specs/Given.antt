@@ -1,8 +1,7 @@
 -- What a line of a network without topologies asks for is an event that such a network has.
 use Rattle.std.specs.Prelude.{◌≡◌, ℕ, List, Some}
-use Rattle.plant_text.specs.declared.line.LineEvent.{LineEvent}
+use Rattle.plant_laws.specs.plant_model.Types.{LineEvent, NetworkParts}
 use Rattle.plant_text.specs.declared.line.LineEvent.TheVariants as line
-use Rattle.plant_text.specs.declared.settings.NetworkParts.{NetworkParts}
 use Rattle.plant_text.specs.Lines.{blind_line_in}
 use Rattle.plant_laws.specs.plant_model.Blind.{AreGivenRows}
 

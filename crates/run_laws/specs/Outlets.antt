@@ -1,10 +1,8 @@
 -- What drains hand out to an outside peer: what was put there for its connection, in order, from its Open on.
 use Rattle.std.specs.Prelude.{◌≡◌, ◌==◌, ℕ, true, cond, List, [], ◌∷◌, ◌++◌, map, Option, Some, None, option_map, Ok, Err}
-use Rattle.dom_base.specs.declared.names.Peer.TheVariants.{Outside}
-use Rattle.pcep_messages.specs.declared.message.Message.{Message}
+use Rattle.plant_laws.specs.plant_model.Types.{Message, NetworkParts, Outside}
 use Rattle.pcep_framing.specs.Frames.{joined}
 use Rattle.request_table.specs.Pending.{same_peer}
-use Rattle.plant_text.specs.declared.settings.NetworkParts.{NetworkParts}
 use Rattle.plant_laws.specs.plant_model.declared.event.Event.{Event}
 use Rattle.plant_laws.specs.plant_model.declared.event.Event.TheVariants as event
 use Rattle.plant_laws.specs.plant_model.declared.outcome.Outcome.TheVariants.{Done, Loaded, Drained}

@@ -1,9 +1,8 @@
 -- Which topologies a history tells, and that all pins are of these.
 use Rattle.std.specs.Prelude.{◌≡◌, ◌⊎◌, ◌&&◌, ◌==◌, ℕ, cond, List, [], ◌∷◌, ◌++◌, Option, Some, None, Ok, Contains}
-use Rattle.dom_base.specs.declared.names.As.{As}
+use Rattle.plant_laws.specs.plant_model.Types.{As, NetworkParts}
 use Rattle.te_links.specs.Rows.{Rows}
 use Rattle.plant_text.specs.Names.{same_as}
-use Rattle.plant_text.specs.declared.settings.NetworkParts.{NetworkParts}
 use Rattle.plant_laws.specs.plant_model.declared.event.Event.{Event}
 use Rattle.plant_laws.specs.plant_model.declared.event.Event.TheVariants as event
 use Rattle.plant_laws.specs.plant_model.declared.outcome.Outcome.TheVariants.{Loaded}

@@ -1,8 +1,7 @@
 -- Pins of known topologies, and what a step makes of them.
 use Rattle.std.specs.Prelude.{◌≡◌, ℕ, suc, Option, Some, Ok, Contains}
-use Rattle.dom_base.specs.declared.names.As.{As}
+use Rattle.plant_laws.specs.plant_model.Types.{As, NetworkParts}
 use Rattle.te_links.specs.Rows.{Rows}
-use Rattle.plant_text.specs.declared.settings.NetworkParts.{NetworkParts}
 use Rattle.plant_laws.specs.plant_model.declared.event.Event.{Event}
 use Rattle.plant_laws.specs.plant_model.declared.event.Event.TheVariants as event
 use Rattle.plant_laws.specs.plant_model.declared.outcome.Outcome.TheVariants.{Loaded}

@@ -6,7 +6,7 @@ use Rattle.te_deltas.specs.Answers.{IsBuiltOf}
 use Rattle.te_deltas.specs.ChangeText.{text_in}
 use Rattle.te_deltas.specs.declared.changes.Change.{Change}
 use Rattle.plant_text.specs.declared.line.LineEvent.TheVariants.{Feed}
-use Rattle.plant_text.specs.declared.settings.NetworkParts.{NetworkParts}
+use Rattle.plant_laws.specs.plant_model.Types.{NetworkParts}
 use Rattle.plant_text.specs.Lines.{blind_line_in, line_in}
 use Rattle.plant_laws.specs.plant_model.Plant.{AreInRange}
 

@@ -1,18 +1,13 @@
 -- What an outside peer reads of the bytes that drains hand out over its connection.
 use Rattle.std.specs.Prelude.{◌≡◌, ◌⊎◌, ℕ, true, false, List, [], map, Contains, Some, None}
 use Rattle.std.specs.List.{AllByRecursion}
-use Rattle.dom_base.specs.declared.names.As.{As}
-use Rattle.dom_base.specs.declared.names.Peer.TheVariants.{Outside}
+use Rattle.plant_laws.specs.plant_model.Types.{As, Message, Reply, Path, NetworkParts, Outside}
 use Rattle.pcep_codes.specs.declared.no_paths.TheConstants as no_paths
-use Rattle.pcep_messages.specs.declared.message.Message.{Message}
 use Rattle.pcep_messages.specs.declared.message.Message.TheVariants as messages
-use Rattle.pcep_messages.specs.declared.message.Reply.{Reply}
-use Rattle.pcep_messages.specs.declared.message.Path.{Path}
 use Rattle.pcep_messages.specs.declared.message.Answer.TheVariants.{Paths, NoPath}
 use Rattle.pcep_messages.specs.Messages.{Reads}
 use Rattle.pcep_messages.specs.Spelling.{message_text}
 use Rattle.pcep_framing.specs.Feeding.{Progress, feed_of}
-use Rattle.plant_text.specs.declared.settings.NetworkParts.{NetworkParts}
 use Rattle.plant_text.specs.Settings.{class_of}
 use Rattle.plant_laws.specs.plant_model.Element.{is_client}
 use Rattle.plant_laws.specs.plant_model.Laws.{IsNetwork}

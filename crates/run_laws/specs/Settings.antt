@@ -1,7 +1,6 @@
 -- Settings that a text gives are those of a network, and so they are with the client `path` of an element.
 use Rattle.std.specs.Prelude.{◌≡◌, ℕ, true, List}
-use Rattle.dom_base.specs.declared.names.As.{As}
-use Rattle.plant_text.specs.declared.settings.NetworkParts.{NetworkParts}
+use Rattle.plant_laws.specs.plant_model.Types.{As, NetworkParts}
 use Rattle.plant_text.specs.Networks.{ObeysRules, with_path}
 use Rattle.plant_text.specs.Reads.{Reads}
 use Rattle.plant_text.specs.Settings.{is_element as has_element}

@@ -1,22 +1,12 @@
 -- The links of a network are calm: no message that stands in an inner queue takes a session down. So carrying messages and solving
 -- jobs ends: each makes a weight less.
 use Rattle.std.specs.Prelude.{◌≡◌, ◌<◌, ◌≤◌, ◌+◌, ◌-◌, ◌*◌, ◌^◌, ℕ, Bool, true, false, cond, List, [], ◌∷◌, ◌++◌, length, Option, Some, None, Ok}
-use Rattle.dom_base.specs.declared.names.As.{As}
-use Rattle.dom_base.specs.declared.border.ParentLink.{ParentLink}
-use Rattle.dom_base.specs.declared.names.Peer.{Peer}
-use Rattle.dom_base.specs.declared.names.Peer.TheVariants.{Outside, Inner}
-use Rattle.pcep_objects.specs.declared.offer.Offer.{Offer}
+use Rattle.plant_laws.specs.plant_model.Types.{As, ParentLink, Peer, Outside, Inner, Offer, Asked, Message, Wish, Phase, Held, NetworkParts}
 use Rattle.pcep_codes.specs.declared.TheConstants.{VERSION}
-use Rattle.pcep_messages.specs.declared.message.Asked.{Asked}
-use Rattle.pcep_messages.specs.declared.message.Message.{Message}
 use Rattle.pcep_messages.specs.declared.message.Message.TheVariants as messages
-use Rattle.pcep_messages.specs.declared.message.Wish.{Wish}
 use Rattle.pcep_messages.specs.declared.message.Wish.TheVariants.{Path, Expand}
-use Rattle.pcep_session.specs.declared.state.Phase.{Phase}
 use Rattle.pcep_session.specs.declared.state.Phase.TheVariants as phase
 use Rattle.pcep_session.specs.Table.{turn_of}
-use Rattle.request_table.specs.declared.held.Held.{Held}
-use Rattle.plant_text.specs.declared.settings.NetworkParts.{NetworkParts}
 use Rattle.plant_text.specs.Names.{same_as, parent_as}
 use Rattle.plant_text.specs.Settings.{adjacencies, is_linked, children, elements_of}
 use Rattle.plant_laws.specs.plant_model.declared.event.Event.{Event}

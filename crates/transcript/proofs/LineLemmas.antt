@@ -1,11 +1,8 @@
 -- Parts of a line one behind the other, and lines of messages.
 use Rattle.std.proofs.Common.{◌≡◌, ◌∙◌, ℕ, zero, suc, Some, None, List, [], ◌∷◌, ◌++◌, drop, append_assoc, decimal, ap, option_map}
 use Rattle.std.specs.Prelude.{slice_get}
-use Rattle.dom_base.specs.declared.names.As.{As}
-use Rattle.dom_base.specs.declared.names.Peer.{Peer}
+use Rattle.network_links.specs.plant_model.Types.{As, Peer, Sent, PeerRow}
 use Rattle.line_text.specs.Hexadecimal.{hex_text}
-use Rattle.plant_queues.specs.declared.sent.Sent.{Sent}
-use Rattle.plant_text.specs.declared.settings.PeerRow.{PeerRow}
 use Rattle.plant_text.specs.Sents.{sent_line}
 use Rattle.transcript.specs.Lines.{name_of, sents_text}
 

@@ -1,17 +1,9 @@
 -- How the events of a run are told: lines, each of which begins with the number of the line of input that it comes from.
 use Rattle.std.specs.Prelude.{ℕ, Bool, true, false, List, [], ◌∷◌, ◌++◌, codes, decimal, Option, Some, None, Ok, Err}
 use Rattle.std.specs.List.{flat_map}
-use Rattle.dom_base.specs.declared.names.As.{As}
-use Rattle.dom_base.specs.declared.names.Peer.{Peer}
-use Rattle.dom_base.specs.declared.names.Peer.TheVariants.{Outside, Inner}
-use Rattle.dom_base.specs.declared.addr.Addr.{Addr}
-use Rattle.dom_base.specs.declared.border.BorderRow.{BorderRow}
-use Rattle.dom_base.specs.declared.query.Label.{Label}
+use Rattle.network_links.specs.plant_model.Types.{As, Peer, Outside, Inner, Addr, BorderRow, Label, Certificate, Sent, PeerRow}
 use Rattle.dom_base.specs.AddrText.{addr_text}
 use Rattle.line_text.specs.Hexadecimal.{hex_text}
-use Rattle.path_certificate.specs.declared.certificate.Certificate.{Certificate}
-use Rattle.plant_queues.specs.declared.sent.Sent.{Sent}
-use Rattle.plant_text.specs.declared.settings.PeerRow.{PeerRow}
 use Rattle.plant_text.specs.Settings.{peer_row}
 use Rattle.plant_text.specs.Sents.{sent_line}
 use Rattle.network_links.specs.plant_model.declared.outcome.Outcome.{Outcome}

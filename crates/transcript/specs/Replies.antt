@@ -4,15 +4,9 @@ use Rattle.std.specs.List.{flat_map}
 use Rattle.dom_base.specs.AddrText.{addr_text}
 use Rattle.dom_base.specs.Numerals.{colour_text}
 use Rattle.dom_base.specs.Words.{units}
-use Rattle.pcep_subobjects.specs.declared.hop.Hop.{Hop}
+use Rattle.network_links.specs.plant_model.Types.{Hop, Message, Path, Reply, Notice, ErrorReport, Answer}
 use Rattle.pcep_subobjects.specs.declared.hop.Hop.TheVariants.{Prefix, AsNumber, Key, Other}
-use Rattle.pcep_messages.specs.declared.message.Message.{Message}
 use Rattle.pcep_messages.specs.declared.message.Message.TheVariants as messages
-use Rattle.pcep_messages.specs.declared.message.Path.{Path}
-use Rattle.pcep_messages.specs.declared.message.Reply.{Reply}
-use Rattle.pcep_messages.specs.declared.message.Notice.{Notice}
-use Rattle.pcep_messages.specs.declared.message.ErrorReport.{ErrorReport}
-use Rattle.pcep_messages.specs.declared.message.Answer.{Answer}
 use Rattle.pcep_messages.specs.declared.message.Answer.TheVariants.{Paths, NoPath}
 
 -- an address, or `key K at ADDR`; replies of ours have no other hops

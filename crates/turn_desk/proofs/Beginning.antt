@@ -1,11 +1,10 @@
 -- A lock may be opened round a network that has just been made, and round what loads have made of it: no request is pending.
 use Rattle.std.proofs.Common.{◌≡◌, ◌<◌, ◌∙◌, Bool, true, false, cond, List, [], ◌∷◌, length, ap, arith, refl, subst, inl, inr, Some}
 use Rattle.std.specs.Prelude.{Contains}
-use Rattle.dom_base.specs.declared.names.As.{As}
+use Rattle.plant_network.specs.plant_model.Types.{As, NetworkParts}
 use Rattle.te_links.specs.Rows.{Rows}
 use Rattle.disclosure.specs.Shown.{open_of}
 use Rattle.plant_text.specs.Settings.{Adjacency, is_element, adjacencies}
-use Rattle.plant_text.specs.declared.settings.NetworkParts.{NetworkParts}
 use Rattle.plant_network.specs.plant_model.declared.event.Event.TheVariants.{Load}
 use Rattle.plant_network.specs.plant_model.declared.outcome.Refused.TheVariants.{GenerationsFull, NoSuchPeer}
 use Rattle.plant_network.specs.plant_model.Deeds as deeds

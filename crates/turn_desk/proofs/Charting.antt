@@ -1,6 +1,6 @@
 -- What a turn of a desk means for its calls as a chart.
 use Rattle.std.proofs.Common.{◌≡◌, ℕ, List, [], ◌∷◌, ◌++◌, ap, sym, refl, ◌∙◌, append-nil, Some, None, Ok, Err}
-use Rattle.dom_base.specs.declared.names.As.{As}
+use Rattle.plant_network.specs.plant_model.Types.{As}
 use Rattle.server_loops.specs.Charts as chart
 use Rattle.plant_network.specs.plant_model.declared.event.Event.{Event}
 use Rattle.plant_network.specs.plant_model.Events.{Answered}

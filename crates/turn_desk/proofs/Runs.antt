@@ -1,8 +1,7 @@
 -- A legal history of turns leads by its events from one state to another, all pins are of the topologies that it tells, and these stay.
 use Rattle.std.proofs.Common.{◌≡◌, ◌∙◌, ℕ, List, [], ◌∷◌, ◌++◌, append_assoc, ap, refl, subst, sym, Option, Some, None}
-use Rattle.dom_base.specs.declared.names.As.{As}
+use Rattle.plant_network.specs.plant_model.Types.{As, NetworkParts}
 use Rattle.te_links.specs.Rows.{Rows}
-use Rattle.plant_text.specs.declared.settings.NetworkParts.{NetworkParts}
 use Rattle.plant_lock.specs.History.{Legal, replay}
 use Rattle.plant_network.specs.plant_model.declared.event.Event.{Event}
 use Rattle.plant_network.specs.plant_model.Events.{Answered}

@@ -4,10 +4,8 @@ use Rattle.std.specs.Prelude.{Contains, IfOk, IfSome, Result}
 use Rattle.std.specs.Arc.{arc_value}
 use Rattle.std.specs.List.{filter_map}
 use Rattle.std.proofs.lemmas.List.Elements.{filter_map-append}
-use Rattle.dom_base.specs.declared.names.As.{As}
-use Rattle.dom_base.specs.declared.names.NoMemory.{NoMemory}
+use Rattle.plant_network.specs.plant_model.Types.{As, NoMemory, Ask}
 use Rattle.te_links.specs.Rows.{Rows}
-use Rattle.border_costs.specs.declared.job.Ask.{Ask}
 use Rattle.plant_lock.specs.declared.view.View.{View}
 use Rattle.plant_lock.specs.History.{Admitted, Legal, entries_at, replay}
 use Rattle.plant_lock.specs.Views.{Adds, LegalFrom}

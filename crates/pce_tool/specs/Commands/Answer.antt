@@ -2,7 +2,7 @@
 use Rattle.std.specs.Prelude.{◌≡◌, ℕ, List, [], ◌∷◌, ◌++◌}
 use Rattle.te_links.specs.Rows.{Rows}
 use Rattle.line_text.specs.Hexadecimal.{hex_text}
-use Rattle.pcep_messages.specs.declared.message.Message.{Message}
+use Rattle.client_laws.specs.plant_model.Types.{Message}
 use Rattle.pcep_messages.specs.Spelling.{message_text}
 use Rattle.one_domain.specs.declared.replying.PathRequest.{PathRequest}
 use Rattle.one_domain.specs.Replies.{IsReply}

@@ -1,18 +1,13 @@
 -- `pair TOPO`: the two replies to a client that asks for a pair, as lower-case hexadecimal text and a line end.
 use Rattle.std.specs.Prelude.{◌≡◌, ◌⊎◌, ℕ, List, [], ◌∷◌, ◌++◌, map, Some}
-use Rattle.dom_base.specs.declared.link.Link.{Link}
-use Rattle.dom_base.specs.declared.addr.Addr.{Addr}
-use Rattle.dom_base.specs.declared.query.Metric.{Metric}
+use Rattle.client_laws.specs.plant_model.Types.{Link, Addr, Metric, Answer, Message, Wanted}
 use Rattle.dom_base.specs.Words.{HasValue}
 use Rattle.te_links.specs.Rows.{Rows}
 use Rattle.walk_laws.specs.Walks.{cost}
 use Rattle.line_text.specs.Hexadecimal.{hex_text}
 use Rattle.disclosure.specs.Shown.{open_of}
-use Rattle.pcep_messages.specs.declared.message.Answer.{Answer}
 use Rattle.pcep_messages.specs.declared.message.Answer.TheVariants as answers
-use Rattle.pcep_messages.specs.declared.message.Message.{Message}
 use Rattle.pcep_messages.specs.declared.message.Message.TheVariants as messages
-use Rattle.pcep_messages.specs.declared.message.Wanted.{Wanted}
 use Rattle.pcep_messages.specs.Spelling.{message_text}
 use Rattle.one_domain.specs.Domain.{IsUnknownVector}
 use Rattle.pcep_messages.specs.Requests.{type_of_metric}

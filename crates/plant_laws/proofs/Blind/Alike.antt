@@ -1,24 +1,14 @@
 -- What an element sends is alike with pins and segments and without them: the same but for messages to clients.
 use Rattle.std.proofs.Common.{◌≡◌, ◌⊎◌, ℕ, Bool, true, false, cond, nat_le, ◌||◌, ◌==◌, ◌^◌, ◌-◌, List, [], ◌∷◌, ◌++◌, Option, Some, None, sym, ◌∙◌, ap, subst, inl, inr, refl}
-use Rattle.dom_base.specs.declared.addr.Addr.{Addr}
-use Rattle.dom_base.specs.declared.names.Peer.{Peer}
-use Rattle.pcep_subobjects.specs.declared.hop.Hop.{Hop}
-use Rattle.pcep_messages.specs.declared.message.Message.{Message}
+use Rattle.plant_model.specs.Types.{Addr, Peer, Hop, Message, Answer, Request, Wish, Class, NetworkParts, Best, Issued}
 use Rattle.pcep_messages.specs.declared.message.Message.TheVariants as messages
-use Rattle.pcep_messages.specs.declared.message.Answer.{Answer}
-use Rattle.pcep_messages.specs.declared.message.Request.{Request}
-use Rattle.pcep_messages.specs.declared.message.Wish.{Wish}
 use Rattle.pcep_messages.specs.declared.message.Wish.TheVariants.{Path, Expand}
-use Rattle.disclosure.specs.declared.class.Class.{Class}
 use Rattle.disclosure.specs.declared.class.Class.TheVariants.{Client, Neighbour, Parent}
-use Rattle.plant_text.specs.declared.settings.NetworkParts.{NetworkParts}
 use Rattle.plant_model.specs.declared.output.Output.{Output}
-use Rattle.vspt_tree.specs.declared.branch.Best.{Best}
 use Rattle.plant_model.specs.Names.{same_addr, has_pair}
 use Rattle.plant_model.specs.Wire.{Codec, Checked, Admitted, Wrong}
 use Rattle.disclosure.specs.Policy.{can_expand}
 use Rattle.request_table.specs.Pending.{number_of, key_of, is_full}
-use Rattle.path_keys.specs.declared.issued.Issued.{Issued}
 use Rattle.path_keys.specs.Keys.{Keys, segment_of, issue_of, live_at, number_after}
 use Rattle.plant_model.specs.Writing.{reply_message, error_message, busy, no_key}
 use Rattle.plant_model.specs.Element.{Element, ElementSettings, Taken, silent, only, each, waiting, is_client}

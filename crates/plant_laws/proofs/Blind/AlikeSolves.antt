@@ -1,11 +1,8 @@
 -- A solve is answered alike without pins and segments: to a closed peer the same bytes, with keys numbered alike.
 use Rattle.std.proofs.Common.{◌≡◌, ℕ, ◌-◌, Bool, true, false, cond, nat_lt, List, [], ◌∷◌, length, sym, ◌∙◌, ap, inr, refl, suc}
 use Rattle.pcep_messages.specs.declared.message.Answer.TheVariants.{Paths, NoPath}
-use Rattle.plant_text.specs.declared.settings.NetworkParts.{NetworkParts}
-use Rattle.vspt_tree.specs.declared.branch.Best.{Best}
-use Rattle.vspt_tree.specs.declared.branch.Branch.{Branch}
+use Rattle.plant_model.specs.Types.{NetworkParts, Best, Branch, Issued}
 use Rattle.plant_model.specs.Wire.{Codec}
-use Rattle.path_keys.specs.declared.issued.Issued.{Issued}
 use Rattle.path_keys.specs.Keys.{Keys, live_at, live_most}
 use Rattle.plant_model.specs.Writing.{reply_message, busy}
 use Rattle.plant_model.specs.Element.{Row, Element, ElementSettings, Taken, is_client}

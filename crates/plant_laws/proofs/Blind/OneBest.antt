@@ -1,18 +1,10 @@
 -- The best ways of a job in one topology are one list, but for the segments.
 use Rattle.std.proofs.Common.{◌≡◌, ◌<◌, ◌≤◌, List, [], ◌∷◌, Option, Some, None, inl, inr, sym, ◌∙◌, ap, subst, arith}
-use Rattle.dom_base.specs.declared.addr.Addr.{Addr}
-use Rattle.dom_base.specs.declared.query.Query.{Query}
-use Rattle.dom_base.specs.declared.query.Seed.{Seed}
-use Rattle.dom_base.specs.declared.query.Label.{Label}
-use Rattle.te_links.specs.declared.rows.OutLink.{OutLink}
+use Rattle.plant_model.specs.Types.{Addr, Query, Seed, Label, OutLink, Best, Target, Down, Ask}
 use Rattle.te_links.specs.Rows.{Rows, IsInOrder}
 use Rattle.walk_laws.specs.Walks.{cost}
 use Rattle.walk_laws.specs.Labels.{◌≼◌}
-use Rattle.vspt_tree.specs.declared.branch.Best.{Best}
-use Rattle.border_costs.specs.declared.job.Target.{Target}
 use Rattle.border_costs.specs.declared.job.Target.TheVariants.{Node, Next}
-use Rattle.border_costs.specs.declared.job.Down.{Down}
-use Rattle.border_costs.specs.declared.job.Ask.{Ask}
 use Rattle.border_costs.specs.Asks.{IsPairTo}
 use Rattle.border_costs.specs.Solutions.{IsHead, AreBest}
 use Rattle.plant_laws.proofs.Runs.Lists.{Stands, Rising, rising_of, stands_of}

@@ -1,12 +1,8 @@
 -- A border table has one join, but for the segments.
 use Rattle.std.proofs.Common.{◌≡◌, ◌⊎◌, ◌<◌, ◌≤◌, ℕ, List, [], ◌∷◌, Option, Some, None, inl, inr, refl, sym, ◌∙◌, ap, subst, arith}
 use Rattle.std.specs.Prelude.{AllPairs}
-use Rattle.dom_base.specs.declared.addr.Addr.{Addr}
-use Rattle.dom_base.specs.declared.border.BorderRow.{BorderRow}
-use Rattle.vspt_tree.specs.declared.branch.Best.{Best}
-use Rattle.border_costs.specs.declared.job.Target.{Target}
+use Rattle.plant_model.specs.Types.{Addr, BorderRow, Best, Target, Down}
 use Rattle.border_costs.specs.declared.job.Target.TheVariants.{Node, Next}
-use Rattle.border_costs.specs.declared.job.Down.{Down}
 use Rattle.border_costs.specs.Tables.{IsRowBefore}
 use Rattle.plant_model.specs.Jobs.{JoinsBy, IsJoinOf}
 use Rattle.plant_laws.proofs.Runs.Lists.{Stands, Rising, stands_of, contains_of, rising_of}

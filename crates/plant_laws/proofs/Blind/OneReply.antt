@@ -1,12 +1,8 @@
 -- What is answered to a closed peer is the same over rows that differ in their segments alone.
 use Rattle.std.proofs.Common.{◌≡◌, ℕ, Bool, true, false, cond, nat_lt, length, suc, List, [], ◌∷◌, Option, sym, ◌∙◌, ap, refl}
-use Rattle.dom_base.specs.declared.addr.Addr.{Addr}
-use Rattle.dom_base.specs.declared.query.Metric.{Metric}
-use Rattle.pcep_messages.specs.declared.message.Path.{Path}
+use Rattle.plant_model.specs.Types.{Addr, Metric, Path, Best, Branch}
 use Rattle.pcep_messages.specs.declared.message.Answer.TheVariants.{Paths}
 use Rattle.path_keys.specs.Keys.{Keys, number_after, issue_of}
-use Rattle.vspt_tree.specs.declared.branch.Best.{Best}
-use Rattle.vspt_tree.specs.declared.branch.Branch.{Branch}
 use Rattle.plant_model.specs.Wire.{Codec}
 use Rattle.plant_model.specs.Writing.{reply_message, busy}
 use Rattle.plant_model.specs.Branches.{closed_branch, path_of}

@@ -3,27 +3,15 @@ use Rattle.std.proofs.Common.{◌≡◌, ℕ, nat_eq, Bool, true, false, cond, L
 use Rattle.std.specs.Prelude.{Contains, ◌↔◌, IsTrue}
 use Rattle.std.specs.Map.{lookup}
 use Rattle.std.proofs.lemmas.Bool.{eq-eqb}
-use Rattle.dom_base.specs.declared.addr.Addr.{Addr}
-use Rattle.dom_base.specs.declared.names.As.{As}
-use Rattle.dom_base.specs.declared.link.Link.{Link}
-use Rattle.dom_base.specs.declared.query.Query.{Query}
-use Rattle.dom_base.specs.declared.query.Seed.{Seed}
-use Rattle.dom_base.specs.declared.query.Label.{Label}
+use Rattle.plant_model.specs.Types.{Addr, As, Link, Query, Seed, Label, Held, Best, Branch, Ask, Down, Target, NetworkParts}
 use Rattle.te_links.specs.Rows.{Rows, IsInOrder}
 use Rattle.walk_laws.specs.Labels.{Reaches, IsLabel, IsTight, IsChosen, IsSegment}
 use Rattle.walk_laws.proofs.Segments.{one_segment}
 use Rattle.disclosure.specs.Shown.{open_of}
-use Rattle.request_table.specs.declared.held.Held.{Held}
-use Rattle.vspt_tree.specs.declared.branch.Best.{Best}
-use Rattle.vspt_tree.specs.declared.branch.Branch.{Branch}
 use Rattle.border_costs.specs.declared.answer.Answer.{Answer}
-use Rattle.border_costs.specs.declared.job.Ask.{Ask}
-use Rattle.border_costs.specs.declared.job.Down.{Down}
-use Rattle.border_costs.specs.declared.job.Target.{Target}
 use Rattle.border_costs.specs.declared.job.Target.TheVariants.{Node, Next}
 use Rattle.border_costs.specs.Asks.{AreSeedsTo}
 use Rattle.border_costs.specs.Solutions.{AreRows, AreBest, IsBest}
-use Rattle.plant_text.specs.declared.settings.NetworkParts.{NetworkParts}
 use Rattle.plant_text.specs.Names.{same_as, parent_as}
 use Rattle.plant_model.specs.declared.event.Event.{Event}
 use Rattle.plant_model.specs.declared.event.Event.TheVariants as event

@@ -1,16 +1,8 @@
 -- The network goes on alike over what is seen of its pins, and without segments, but for what clients are shown.
 use Rattle.std.proofs.Common.{◌≡◌, ◌⊎◌, ℕ, ◌+◌, ◌%◌, Bool, true, false, cond, ◌==◌, List, [], ◌∷◌, ◌++◌, Option, Some, None, sym, ◌∙◌, ap, subst, inl, inr, refl}
-use Rattle.dom_base.specs.declared.names.As.{As}
-use Rattle.dom_base.specs.declared.names.Peer.{Peer}
-use Rattle.dom_base.specs.declared.names.Peer.TheVariants.{Outside, Inner}
-use Rattle.pcep_messages.specs.declared.message.Message.{Message}
-use Rattle.dom_base.specs.declared.names.Tick.{Tick}
-use Rattle.pcep_session.specs.declared.actions.Own.{Own}
-use Rattle.pcep_session.specs.declared.session.Input.{Input}
+use Rattle.plant_model.specs.Types.{As, Peer, Outside, Inner, Message, Tick, Own, Input, Action, NetworkParts, State as Session}
 use Rattle.pcep_session.specs.declared.session.Input.TheVariants as input
-use Rattle.pcep_session.specs.declared.actions.Action.{Action}
 use Rattle.pcep_session.specs.declared.actions.Action.TheVariants as action
-use Rattle.plant_text.specs.declared.settings.NetworkParts.{NetworkParts}
 use Rattle.plant_model.specs.declared.output.Output.{Output}
 use Rattle.plant_text.specs.Names.{same_as, parent_as}
 use Rattle.plant_model.specs.Names.{set_pair, is_empty}
@@ -21,7 +13,6 @@ use Rattle.disclosure.specs.declared.class.Class.TheVariants.{Neighbour, Parent}
 use Rattle.plant_model.specs.Element.{is_client, Element, upped, downed, ticked}
 use Rattle.plant_model.specs.Taking.{take}
 use Rattle.plant_model.specs.Parent as parent
-use Rattle.pcep_session.specs.declared.state.State.{State as Session}
 use Rattle.pcep_session.specs.Table.{turn_of, new_state}
 use Rattle.plant_model.specs.Plant.{Pin, Segment}
 use Rattle.plant_text.specs.Settings.{Adjacency, class_of}

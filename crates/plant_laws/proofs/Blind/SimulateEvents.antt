@@ -1,16 +1,9 @@
 -- Each event that takes no topology does alike over what is seen of the pins.
 use Rattle.std.proofs.Common.{◌≡◌, ℕ, ◌+◌, ◌%◌, Bool, true, false, cond, ◌==◌, List, [], ◌∷◌, ◌++◌, Option, Some, None, is_some, sym, ◌∙◌, ap, subst, refl, Ok}
 use Rattle.std.proofs.lemmas.Bool.{eqb-true}
-use Rattle.dom_base.specs.declared.names.As.{As}
-use Rattle.dom_base.specs.declared.names.Tick.{Tick}
-use Rattle.dom_base.specs.declared.names.Peer.TheVariants.{Outside}
-use Rattle.pcep_messages.specs.declared.message.Message.{Message}
-use Rattle.pcep_session.specs.declared.session.Input.{Input}
+use Rattle.plant_model.specs.Types.{As, Tick, Message, Input, Action, NetworkParts, PeerRow, State as Session, Outside}
 use Rattle.pcep_session.specs.declared.session.Input.TheVariants as input
-use Rattle.pcep_session.specs.declared.actions.Action.{Action}
 use Rattle.pcep_session.specs.declared.actions.Action.TheVariants as action
-use Rattle.plant_text.specs.declared.settings.NetworkParts.{NetworkParts}
-use Rattle.plant_text.specs.declared.settings.PeerRow.{PeerRow}
 use Rattle.plant_model.specs.declared.outcome.Outcome.TheVariants.{Done}
 use Rattle.plant_model.specs.declared.outcome.Outcome.TheVariants as Outcome
 use Rattle.plant_model.specs.declared.outcome.Refused.TheVariants.{NoSuchPeer, NotHolder}
@@ -19,7 +12,6 @@ use Rattle.plant_model.specs.Wire.{Bytes, Codec}
 use Rattle.disclosure.specs.Shown.{open_of}
 use Rattle.pcep_framing.specs.Frames.{Framing, joined}
 use Rattle.plant_model.specs.Plant.{Pin, Segment}
-use Rattle.pcep_session.specs.declared.state.State.{State as Session}
 use Rattle.pcep_session.specs.Table.{turn_of, new_state}
 use Rattle.plant_text.specs.Settings.{adjacency, adjacencies, is_linked, peer_row}
 use Rattle.plant_model.specs.State.{Connection, Access, Pops, Hands}

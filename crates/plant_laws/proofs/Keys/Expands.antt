@@ -2,26 +2,15 @@
 use Rattle.std.proofs.Common.{◌≡◌, ◌⊎◌, ◌<◌, ℕ, ◌+◌, Bool, true, false, cond, ◌==◌, ◌&&◌, nat_lt, List, [], ◌∷◌, ◌++◌, Option, Some, None, sym, ◌∙◌, ap, subst, inl, inr, refl, arith}
 use Rattle.std.specs.Prelude.{if◌then◌else◌}
 use Rattle.std.proofs.lemmas.Bool.{eqb-true, eq-eqb}
-use Rattle.dom_base.specs.declared.names.As.{As}
-use Rattle.dom_base.specs.declared.addr.Addr.{Addr}
-use Rattle.dom_base.specs.declared.names.Peer.{Peer}
-use Rattle.pcep_messages.specs.declared.message.Asked.{Asked}
-use Rattle.pcep_messages.specs.declared.message.Answer.{Answer}
+use Rattle.plant_model.specs.Types.{As, Addr, Peer, Asked, Answer, Request, Wish, RequestKey, Deny, Issued, NetworkParts, ElementRow}
 use Rattle.pcep_messages.specs.declared.message.Message.TheVariants as messages
-use Rattle.pcep_messages.specs.declared.message.Request.{Request}
-use Rattle.pcep_messages.specs.declared.message.Wish.{Wish}
 use Rattle.pcep_messages.specs.declared.message.Wish.TheVariants as wishes
-use Rattle.request_table.specs.declared.held.RequestKey.{RequestKey}
 use Rattle.request_table.specs.Pending.{number_among, number_of, key_of, same_key}
 use Rattle.request_table.proofs.KeyLemmas.{same_key_is}
 use Rattle.disclosure.specs.Policy.{can_expand}
 use Rattle.disclosure.specs.Shown.{open_of}
-use Rattle.disclosure.specs.declared.class.Deny.{Deny}
-use Rattle.path_keys.specs.declared.issued.Issued.{Issued}
 use Rattle.path_keys.specs.Keys.{is_live, segment_among, segment_of}
 use Rattle.path_keys.proofs.KeyLemmas.{live_if}
-use Rattle.plant_text.specs.declared.settings.NetworkParts.{NetworkParts}
-use Rattle.plant_text.specs.declared.settings.ElementRow.{ElementRow}
 use Rattle.plant_model.specs.declared.output.Output.{Output}
 use Rattle.plant_text.specs.Names.{same_as, parent_as}
 use Rattle.plant_model.specs.Names.{same_addr}

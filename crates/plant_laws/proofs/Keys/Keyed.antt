@@ -1,17 +1,12 @@
 -- In every state of a run the keys of an element are those of its last solve that are live, and each message taken meets the
 -- element as it stood.
 use Rattle.std.proofs.Common.{◌≡◌, ◌⊎◌, ℕ, Bool, true, false, cond, ◌==◌, List, [], ◌∷◌, ◌++◌, Option, Some, None, is_some, sym, ◌∙◌, ap, subst, inl, inr, refl}
-use Rattle.dom_base.specs.declared.names.As.{As}
-use Rattle.dom_base.specs.declared.names.Peer.{Peer}
-use Rattle.dom_base.specs.declared.names.Peer.TheVariants.{Outside, Inner}
+use Rattle.plant_model.specs.Types.{As, Peer, Outside, Inner, Message, Action, NetworkParts}
 use Rattle.disclosure.specs.Shown.{open_of}
-use Rattle.pcep_messages.specs.declared.message.Message.{Message}
 use Rattle.pcep_session.specs.declared.session.Input.TheVariants as input
-use Rattle.pcep_session.specs.declared.actions.Action.{Action}
 use Rattle.pcep_session.specs.Table.{turn_of}
 use Rattle.pcep_framing.specs.Frames.{joined}
 use Rattle.plant_model.specs.declared.outcome.Refused.TheVariants.{NoSuchPeer}
-use Rattle.plant_text.specs.declared.settings.NetworkParts.{NetworkParts}
 use Rattle.plant_model.specs.declared.output.Output.{Output}
 use Rattle.plant_text.specs.Names.{same_as, parent_as}
 use Rattle.plant_model.specs.Names.{set_pair}

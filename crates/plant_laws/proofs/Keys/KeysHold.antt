@@ -1,22 +1,17 @@
 -- In every state of a run the keys of an element are a table of keys, whose numbers differ and fit their field.
 use Rattle.std.proofs.Common.{◌≡◌, ◌≢◌, ◌<◌, ◌≤◌, ℕ, ◌+◌, zero, suc, Bool, true, false, cond, nat_lt, List, [], ◌∷◌, ◌++◌, length, filter, Some, sym, ◌∙◌, ap, subst, inl, inr, refl, arith}
-use Rattle.dom_base.specs.declared.names.As.{As}
+use Rattle.plant_model.specs.Types.{As, Issued, ElementRow, Best, Branch, NetworkParts}
 use Rattle.disclosure.specs.Shown.{open_of}
-use Rattle.path_keys.specs.declared.issued.Issued.{Issued}
 use Rattle.path_keys.specs.Keys.{Keys, AreKeys, Follows, Rises, is_live, live_at, issue_of, expired_of, live_most, number_most}
 use Rattle.path_keys.proofs.KeyLemmas.{live_if, all_live, issued_keys, expired_keys, numbers_differ}
 use Rattle.std.specs.Prelude.{AllPairs, All, ◌-◌, drop}
 use Rattle.std.proofs.lemmas.List.Elements.{All-nil, All-cons, All-contains}
-use Rattle.plant_text.specs.declared.settings.ElementRow.{ElementRow}
 use Rattle.plant_text.specs.Settings.{life_from, row_of}
 use Rattle.plant_model.specs.Solving.{free, job_found}
 use Rattle.plant_model.specs.Laws.{IsElement, IsNetwork}
 use Rattle.plant_laws.specs.Keys.{KeysDiffer}
 use Rattle.plant_laws.proofs.Keys.KeyedRuns.{opened_calm, ticked_calm, later_least, before_plain}
-use Rattle.vspt_tree.specs.declared.branch.Best.{Best}
-use Rattle.vspt_tree.specs.declared.branch.Branch.{Branch}
 use Rattle.plant_model.specs.declared.outcome.Refused.TheVariants.{GenerationsFull, NoSuchPeer}
-use Rattle.plant_text.specs.declared.settings.NetworkParts.{NetworkParts}
 use Rattle.plant_model.specs.declared.event.Event.{Event}
 use Rattle.plant_model.specs.declared.event.Event.TheVariants as event
 use Rattle.plant_model.specs.declared.output.Output.{Output}

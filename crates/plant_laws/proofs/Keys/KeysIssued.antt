@@ -1,14 +1,9 @@
 -- Each key of an element was issued by a solve that chose the segment that it stands for.
 use Rattle.std.proofs.Common.{◌≡◌, ◌⊎◌, ℕ, Bool, true, false, cond, nat_lt, List, [], ◌∷◌, ◌++◌, length, sym, ◌∙◌, ap, subst, inl, inr, refl}
 use Rattle.std.proofs.lemmas.Bool.{eq-eqb}
-use Rattle.dom_base.specs.declared.names.As.{As}
-use Rattle.dom_base.specs.declared.addr.Addr.{Addr}
-use Rattle.path_keys.specs.declared.issued.Issued.{Issued}
+use Rattle.plant_model.specs.Types.{As, Addr, Issued, Best, Branch, NetworkParts, Metric, Path}
 use Rattle.path_keys.specs.Keys.{Keys, is_live, live_at, issue_of, number_after}
-use Rattle.vspt_tree.specs.declared.branch.Best.{Best}
-use Rattle.vspt_tree.specs.declared.branch.Branch.{Branch}
 use Rattle.plant_model.specs.declared.outcome.Refused.TheVariants.{GenerationsFull, NoSuchPeer}
-use Rattle.plant_text.specs.declared.settings.NetworkParts.{NetworkParts}
 use Rattle.plant_model.specs.declared.event.Event.{Event}
 use Rattle.plant_model.specs.declared.event.Event.TheVariants as event
 use Rattle.plant_model.specs.declared.output.Output.{Output}
@@ -27,8 +22,6 @@ use Rattle.plant_laws.proofs.Runs.Decompose.{nil_right}
 use Rattle.plant_laws.proofs.Runs.Queues.{same_as_is}
 use Rattle.std.proofs.lemmas.Bool.{eqb-true}
 use Rattle.std.specs.Prelude.{Contains}
-use Rattle.dom_base.specs.declared.query.Metric.{Metric}
-use Rattle.pcep_messages.specs.declared.message.Path.{Path}
 use Rattle.pcep_messages.specs.declared.message.Answer.TheVariants.{Paths}
 use Rattle.plant_model.specs.Branches.{closed_branch, path_of}
 use Rattle.plant_model.specs.Writing.{reply_message}

@@ -1,18 +1,9 @@
 -- An element that is given a message keeps its keys.
 use Rattle.std.proofs.Common.{◌≡◌, ℕ, Bool, true, false, cond, ◌==◌, List, [], ◌∷◌, Option, Some, None, refl}
-use Rattle.dom_base.specs.declared.names.As.{As}
-use Rattle.dom_base.specs.declared.names.Peer.{Peer}
-use Rattle.pcep_subobjects.specs.declared.hop.Hop.{Hop}
-use Rattle.pcep_messages.specs.declared.message.Message.{Message}
+use Rattle.plant_model.specs.Types.{As, Peer, Hop, Message, Reply, Answer, Request, Wanted, Wish, Class}
 use Rattle.pcep_messages.specs.declared.message.Message.TheVariants as messages
-use Rattle.pcep_messages.specs.declared.message.Reply.{Reply}
-use Rattle.pcep_messages.specs.declared.message.Answer.{Answer}
 use Rattle.pcep_messages.specs.declared.message.Answer.TheVariants.{Paths, NoPath}
-use Rattle.pcep_messages.specs.declared.message.Request.{Request}
-use Rattle.pcep_messages.specs.declared.message.Wanted.{Wanted}
-use Rattle.pcep_messages.specs.declared.message.Wish.{Wish}
 use Rattle.pcep_messages.specs.declared.message.Wish.TheVariants.{Path, Expand}
-use Rattle.disclosure.specs.declared.class.Class.{Class}
 use Rattle.request_table.specs.Pending.{same_peer, number_of, is_full}
 use Rattle.path_keys.specs.Keys.{Keys}
 use Rattle.plant_model.specs.Names.{the_parent, has_pair}

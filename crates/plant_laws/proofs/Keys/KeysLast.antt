@@ -1,13 +1,9 @@
 -- A key that a solve told lasts for its life.
 use Rattle.std.proofs.Common.{◌≡◌, ◌<◌, ◌≤◌, ◌+◌, arith, ℕ, Bool, true, false, cond, nat_lt, List, [], ◌∷◌, ◌++◌, length, sym, ◌∙◌, ap, subst, inl, inr, refl}
 use Rattle.std.proofs.lemmas.Bool.{eq-eqb}
-use Rattle.dom_base.specs.declared.names.As.{As}
-use Rattle.path_keys.specs.declared.issued.Issued.{Issued}
+use Rattle.plant_model.specs.Types.{As, Issued, Best, Branch, NetworkParts, Message}
 use Rattle.path_keys.specs.Keys.{Keys, is_live, live_at, issue_of}
-use Rattle.vspt_tree.specs.declared.branch.Best.{Best}
-use Rattle.vspt_tree.specs.declared.branch.Branch.{Branch}
 use Rattle.plant_model.specs.declared.outcome.Refused.TheVariants.{GenerationsFull, NoSuchPeer}
-use Rattle.plant_text.specs.declared.settings.NetworkParts.{NetworkParts}
 use Rattle.plant_model.specs.declared.event.Event.{Event}
 use Rattle.plant_model.specs.declared.event.Event.TheVariants as event
 use Rattle.plant_model.specs.declared.output.Output.{Output}
@@ -25,7 +21,6 @@ use Rattle.plant_laws.specs.Keys.{clock_at, last_keys}
 use Rattle.plant_laws.proofs.Keys.KeysIssued.{Leaves, happens_leaves}
 use Rattle.plant_laws.proofs.Keys.KeysHold.{lives_of}
 use Rattle.path_keys.proofs.KeyLemmas.{live_if}
-use Rattle.pcep_messages.specs.declared.message.Message.{Message}
 use Rattle.pcep_messages.specs.declared.message.Message.TheVariants as messages
 use Rattle.plant_model.specs.Events as events
 use Rattle.std.proofs.lemmas.Bool.{eqb-true}

@@ -1,11 +1,7 @@
 -- In every state of a run the keys of an element live as long as the settings say.
 use Rattle.std.proofs.Common.{◌≡◌, ℕ, length, Bool, true, false, cond, Option, Some, None, List, [], ◌∷◌, ◌++◌, sym, ◌∙◌, ap, subst, refl, arith}
-use Rattle.dom_base.specs.declared.names.As.{As}
-use Rattle.dom_base.specs.declared.names.Peer.{Peer}
-use Rattle.dom_base.specs.declared.names.Peer.TheVariants.{Outside, Inner}
-use Rattle.pcep_messages.specs.declared.message.Message.{Message}
+use Rattle.plant_model.specs.Types.{As, Peer, Outside, Inner, Message, NetworkParts, Answer, Reply, Wanted, Wish, Class, Best, Branch, ElementRow}
 use Rattle.disclosure.specs.Shown.{open_of}
-use Rattle.plant_text.specs.declared.settings.NetworkParts.{NetworkParts}
 use Rattle.plant_model.specs.declared.output.Output.{Output}
 use Rattle.plant_text.specs.Names.{same_as, parent_as}
 use Rattle.plant_model.specs.Names.{the_parent, set_as}
@@ -28,19 +24,11 @@ use Rattle.plant_laws.proofs.Runs.Induction.{run_holds}
 use Rattle.plant_laws.proofs.Once.Opened.{puts_elements}
 use Rattle.std.specs.Prelude.{◌≤◌, ◌==◌, All, nat_lt}
 use Rattle.std.proofs.lemmas.List.Elements.{All-head, All-tail}
-use Rattle.pcep_messages.specs.declared.message.Answer.{Answer}
 use Rattle.pcep_messages.specs.declared.message.Answer.TheVariants.{Paths, NoPath}
 use Rattle.pcep_messages.specs.declared.message.Message.TheVariants as messages
-use Rattle.pcep_messages.specs.declared.message.Reply.{Reply}
-use Rattle.pcep_messages.specs.declared.message.Wanted.{Wanted}
-use Rattle.pcep_messages.specs.declared.message.Wish.{Wish}
 use Rattle.pcep_messages.specs.declared.message.Wish.TheVariants.{Path, Expand}
-use Rattle.disclosure.specs.declared.class.Class.{Class}
 use Rattle.path_keys.specs.Keys.{Keys, issue_of}
-use Rattle.vspt_tree.specs.declared.branch.Best.{Best}
-use Rattle.vspt_tree.specs.declared.branch.Branch.{Branch}
 use Rattle.request_table.specs.Pending.{same_peer, number_of, is_full}
-use Rattle.plant_text.specs.declared.settings.ElementRow.{ElementRow}
 use Rattle.plant_model.specs.Names.{has_pair}
 use Rattle.plant_model.specs.Wire.{Checked, Admitted, Wrong}
 use Rattle.plant_model.specs.Element.{Way, ElementSettings, Taken, each, waiting, way_to, is_client}

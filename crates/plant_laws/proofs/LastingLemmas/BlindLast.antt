@@ -1,6 +1,6 @@
 -- In each step of the blind plant all jobs last, too.
 use Rattle.std.proofs.Common.{true, inl, inr}
-use Rattle.plant_text.specs.declared.settings.NetworkParts.{NetworkParts}
+use Rattle.plant_model.specs.Types.{NetworkParts}
 use Rattle.plant_model.specs.declared.event.BlindEvent.{BlindEvent}
 use Rattle.plant_model.specs.declared.event.BlindEvent.TheVariants as blind
 use Rattle.plant_model.specs.Wire.{Codec}

@@ -3,8 +3,7 @@ use Rattle.std.proofs.Common.{◌≡◌, ◌≢◌, ◌⊎◌, ◌+◌, ◌≤�
 use Rattle.std.specs.Prelude.{filter}
 use Rattle.std.specs.Map.{lookup, remove_entry}
 use Rattle.std.proofs.lemmas.Bool.{cases_Bool, eqb-true, eq-eqb, ne_eqb}
-use Rattle.dom_base.specs.declared.names.Peer.{Peer}
-use Rattle.request_table.specs.declared.held.Held.{Held}
+use Rattle.plant_model.specs.Types.{Peer, Held}
 use Rattle.request_table.specs.Pending.{Pending, NumbersRise, opened_of, closed_of, key_of}
 use Rattle.request_table.specs.Lends.{with_item, written_of}
 use Rattle.request_table.proofs.PendingLemmas.{NumbersRise-last}

@@ -2,21 +2,14 @@
 use Rattle.std.proofs.Common.{◌≡◌, ◌⊎◌, ◌≤◌, ℕ, List, [], ◌∷◌, sym, ◌∙◌, ap, subst, refl}
 use Rattle.std.specs.Prelude.{Contains}
 use Rattle.dom_base.specs.declared.limits.TheConstants.{COST_MAX}
-use Rattle.dom_base.specs.declared.addr.Addr.{Addr}
-use Rattle.dom_base.specs.declared.names.As.{As}
+use Rattle.plant_model.specs.Types.{Addr, As, Path, Wanted, Best, Branch, Ask, NetworkParts}
 use Rattle.te_links.specs.Rows.{Rows, IsInOrder}
-use Rattle.pcep_messages.specs.declared.message.Path.{Path}
-use Rattle.pcep_messages.specs.declared.message.Wanted.{Wanted}
 use Rattle.walk_laws.specs.Crossing.{query_in, HasNoCrossing}
 use Rattle.walk_laws.specs.Composition.{IsEntryFrom, AreBeyond}
-use Rattle.vspt_tree.specs.declared.branch.Best.{Best}
-use Rattle.vspt_tree.specs.declared.branch.Branch.{Branch}
 use Rattle.border_costs.specs.declared.job.Target.TheVariants.{Node, Next}
-use Rattle.border_costs.specs.declared.job.Ask.{Ask}
 use Rattle.border_costs.specs.declared.answer.Answer.{Answer as Answers}
 use Rattle.border_costs.specs.Asks.{beyond}
 use Rattle.border_costs.specs.Solutions.{AreRows}
-use Rattle.plant_text.specs.declared.settings.NetworkParts.{NetworkParts}
 use Rattle.plant_model.specs.Wire.{Codec}
 use Rattle.plant_model.specs.Branches.{downs, branches_in}
 use Rattle.plant_model.specs.Laws.{IsCodec}

@@ -3,25 +3,14 @@ use Rattle.std.proofs.Common.{◌≡◌, ◌+◌, ◌≤◌, ℕ, Bool, true, fa
 use Rattle.std.specs.Prelude.{Contains, Some, None}
 use Rattle.std.proofs.lemmas.Bool.{eqb-true, eq-eqb, ltb-true, ltb-false}
 use Rattle.std.specs.declared.option.Option.{Option}
-use Rattle.dom_base.specs.declared.addr.Addr.{Addr}
-use Rattle.dom_base.specs.declared.names.As.{As}
-use Rattle.dom_base.specs.declared.link.Link.{Link}
-use Rattle.dom_base.specs.declared.query.Query.{Query}
-use Rattle.dom_base.specs.declared.query.Seed.{Seed}
-use Rattle.dom_base.specs.declared.query.Label.{Label}
+use Rattle.plant_model.specs.Types.{Addr, As, Link, Query, Seed, Label, OutLink, Best, Branch, Target, Down, Ask}
 use Rattle.dom_base.specs.Admission.{weight}
-use Rattle.te_links.specs.declared.rows.OutLink.{OutLink}
 use Rattle.te_links.specs.Rows.{Rows, IsInOrder}
 use Rattle.walk_laws.specs.Walks.{Walk, cost}
 use Rattle.walk_laws.specs.Labels.{IsSegment}
 use Rattle.walk_laws.specs.Borders.{Beyond, LeadsTo, IsDown, IsJoin, JoinsAt, AreBorderSeeds}
 use Rattle.walk_laws.proofs.Admitted.{walk_admits}
-use Rattle.vspt_tree.specs.declared.branch.Best.{Best}
-use Rattle.vspt_tree.specs.declared.branch.Branch.{Branch}
-use Rattle.border_costs.specs.declared.job.Target.{Target}
 use Rattle.border_costs.specs.declared.job.Target.TheVariants.{Node, Next}
-use Rattle.border_costs.specs.declared.job.Down.{Down}
-use Rattle.border_costs.specs.declared.job.Ask.{Ask}
 use Rattle.border_costs.specs.Asks.{beyond, target_seed, AreSeedsTo, IsPairTo}
 use Rattle.border_costs.specs.Solutions.{IsHead, GoesOver, IsBest}
 use Rattle.plant_model.specs.Names.{same_addr}

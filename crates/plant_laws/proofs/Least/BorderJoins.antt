@@ -5,21 +5,11 @@ use Rattle.std.proofs.lemmas.Bool.{cases_lt, cases_eq}
 use Rattle.std.proofs.lemmas.List.{get_or_default}
 use Rattle.std.proofs.lemmas.List.Elements.{All-head, All-tail, All-nil, All-cons}
 use Rattle.std.proofs.lemmas.List.Kept.{AllPairs-cons}
-use Rattle.dom_base.specs.declared.addr.Addr.{Addr}
-use Rattle.dom_base.specs.declared.names.As.{As}
-use Rattle.dom_base.specs.declared.border.BorderRow.{BorderRow}
-use Rattle.dom_base.specs.declared.query.Query.{Query}
-use Rattle.dom_base.specs.declared.query.Label.{Label}
-use Rattle.dom_base.specs.declared.query.Seed.{Seed}
-use Rattle.te_links.specs.declared.rows.OutLink.{OutLink}
+use Rattle.plant_model.specs.Types.{Addr, As, BorderRow, Query, Label, Seed, OutLink, Best, Target, Down, Ask}
 use Rattle.te_links.specs.Rows.{Rows, IsInOrder}
 use Rattle.walk_laws.specs.Walks.{IsFeasible, IsLeast}
 use Rattle.walk_laws.specs.Borders.{IsBorderRow, IsDown, Joins}
-use Rattle.vspt_tree.specs.declared.branch.Best.{Best}
-use Rattle.border_costs.specs.declared.job.Target.{Target}
 use Rattle.border_costs.specs.declared.job.Target.TheVariants.{Node, Next}
-use Rattle.border_costs.specs.declared.job.Down.{Down}
-use Rattle.border_costs.specs.declared.job.Ask.{Ask}
 use Rattle.border_costs.specs.Asks.{beyond, IsPair, IsPairTo}
 use Rattle.border_costs.specs.Solutions.{IsHead, IsBest, AreBest}
 use Rattle.border_costs.specs.Tables.{IsRowTo}

@@ -4,11 +4,8 @@ use Rattle.std.specs.Prelude.{All, AllPairs}
 use Rattle.std.proofs.lemmas.Bool.{eqb-true, eqb-false, ltb-true, ltb-false}
 use Rattle.std.proofs.lemmas.List.Elements.{All-head, All-tail, All-nil, All-cons}
 use Rattle.std.proofs.lemmas.List.Kept.{AllPairs-cons}
-use Rattle.dom_base.specs.declared.addr.Addr.{Addr}
-use Rattle.dom_base.specs.declared.names.As.{As}
-use Rattle.te_links.specs.declared.rows.Entry.{Entry}
+use Rattle.plant_model.specs.Types.{Addr, As, Entry, Class}
 use Rattle.te_links.specs.Rows.{Rows, IsInOrder, IsEntryBefore}
-use Rattle.disclosure.specs.declared.class.Class.{Class}
 use Rattle.disclosure.specs.declared.class.Class.TheVariants.{Client, Neighbour, Parent}
 use Rattle.plant_text.specs.Names.{same_as}
 use Rattle.plant_model.specs.Names.{same_addr}

@@ -1,25 +1,12 @@
 -- What the theorems on least costs take of a run, said of its transcript alone. Each field comes from the laws on pending requests,
 -- ids, queues and written messages.
 use Rattle.std.specs.Prelude.{◌≡◌, ◌≢◌, ◌⊎◌, ◌≤◌, ◌<◌, ◌^◌, ℕ, true, false, List, [], ◌∷◌, Contains, Option, Some, bit_and}
-use Rattle.dom_base.specs.declared.names.As.{As}
-use Rattle.dom_base.specs.declared.addr.Addr.{Addr}
-use Rattle.dom_base.specs.declared.names.Peer.{Peer}
-use Rattle.dom_base.specs.declared.names.Peer.TheVariants.{Outside, Inner}
-use Rattle.pcep_messages.specs.declared.message.Asked.{Asked}
-use Rattle.pcep_messages.specs.declared.message.Path.{Path}
-use Rattle.pcep_messages.specs.declared.message.Reply.{Reply}
-use Rattle.pcep_messages.specs.declared.message.Message.{Message}
+use Rattle.plant_model.specs.Types.{As, Addr, Peer, Outside, Inner, Asked, Path, Reply, Message, Request, Wanted, Issued, Held, Branch, NetworkParts}
 use Rattle.pcep_messages.specs.declared.message.Message.TheVariants as messages
-use Rattle.pcep_messages.specs.declared.message.Request.{Request}
-use Rattle.pcep_messages.specs.declared.message.Wanted.{Wanted}
 use Rattle.pcep_messages.specs.declared.message.Wish.TheVariants as wishes
 use Rattle.outside_part.specs.Ranges.{AreInRange}
-use Rattle.path_keys.specs.declared.issued.Issued.{Issued}
-use Rattle.request_table.specs.declared.held.Held.{Held}
-use Rattle.vspt_tree.specs.declared.branch.Branch.{Branch}
 use Rattle.border_costs.specs.declared.answer.Answer.{Answer as Answers}
 use Rattle.border_costs.specs.Solutions.{AreRows}
-use Rattle.plant_text.specs.declared.settings.NetworkParts.{NetworkParts}
 use Rattle.plant_model.specs.declared.output.Output.{Output}
 use Rattle.plant_text.specs.Names.{parent_as}
 use Rattle.plant_model.specs.Names.{the_parent}

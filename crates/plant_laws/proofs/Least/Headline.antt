@@ -2,17 +2,9 @@
 use Rattle.std.proofs.Common.{◌≡◌, ◌≢◌, ◌⊎◌, ℕ, suc, Bool, true, false, cond, List, [], ◌∷◌, length, sym, ◌∙◌, ap, subst, inl, inr, refl, arith}
 use Rattle.std.specs.Prelude.{Contains, Some, None, bit_and}
 use Rattle.std.specs.declared.option.Option.{Option}
-use Rattle.dom_base.specs.declared.names.As.{As}
-use Rattle.dom_base.specs.declared.names.Peer.{Peer}
-use Rattle.dom_base.specs.declared.names.Peer.TheVariants.{Outside}
-use Rattle.pcep_messages.specs.declared.message.Answer.{Answer}
+use Rattle.plant_model.specs.Types.{As, Peer, Outside, Answer, Path, Reply, Issued, Class, NetworkParts}
 use Rattle.pcep_messages.specs.declared.message.Answer.TheVariants.{Paths, NoPath}
-use Rattle.pcep_messages.specs.declared.message.Path.{Path}
-use Rattle.pcep_messages.specs.declared.message.Reply.{Reply}
 use Rattle.pcep_messages.specs.declared.message.Message.TheVariants as messages
-use Rattle.path_keys.specs.declared.issued.Issued.{Issued}
-use Rattle.disclosure.specs.declared.class.Class.{Class}
-use Rattle.plant_text.specs.declared.settings.NetworkParts.{NetworkParts}
 use Rattle.plant_model.specs.declared.output.Output.{Output}
 use Rattle.plant_text.specs.Names.{same_as, parent_as}
 use Rattle.plant_model.specs.Wire.{Codec}

@@ -4,25 +4,13 @@ use Rattle.std.specs.Prelude.{Contains, Some}
 use Rattle.std.specs.declared.option.Option.{Option}
 use Rattle.std.proofs.lemmas.Bool.{eq-eqb}
 use Rattle.dom_base.specs.declared.limits.TheConstants.{COST_MAX}
-use Rattle.dom_base.specs.declared.addr.Addr.{Addr}
-use Rattle.dom_base.specs.declared.names.As.{As}
-use Rattle.dom_base.specs.declared.names.Peer.{Peer}
-use Rattle.dom_base.specs.declared.names.Peer.TheVariants.{Inner, Outside}
+use Rattle.plant_model.specs.Types.{Addr, As, Peer, Inner, Outside, Asked, Path, Message, Request, Wanted, Issued, Class, Branch, NetworkParts}
 use Rattle.te_links.specs.Rows.{Rows, IsInOrder}
-use Rattle.pcep_messages.specs.declared.message.Asked.{Asked}
-use Rattle.pcep_messages.specs.declared.message.Path.{Path}
-use Rattle.pcep_messages.specs.declared.message.Message.{Message}
 use Rattle.pcep_messages.specs.declared.message.Message.TheVariants as messages
-use Rattle.pcep_messages.specs.declared.message.Request.{Request}
-use Rattle.pcep_messages.specs.declared.message.Wanted.{Wanted}
 use Rattle.pcep_messages.specs.declared.message.Wish.TheVariants as wishes
-use Rattle.path_keys.specs.declared.issued.Issued.{Issued}
-use Rattle.disclosure.specs.declared.class.Class.{Class}
 use Rattle.disclosure.specs.declared.class.Class.TheVariants.{Neighbour, Parent}
-use Rattle.vspt_tree.specs.declared.branch.Branch.{Branch}
 use Rattle.border_costs.specs.Solutions.{AreRows}
 use Rattle.walk_laws.specs.Crossing.{query_in}
-use Rattle.plant_text.specs.declared.settings.NetworkParts.{NetworkParts}
 use Rattle.plant_model.specs.declared.output.Output.{Output}
 use Rattle.plant_text.specs.Names.{same_as, parent_as}
 use Rattle.plant_model.specs.Wire.{Codec, Admitted}

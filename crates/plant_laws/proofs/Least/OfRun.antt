@@ -2,16 +2,9 @@
 use Rattle.std.proofs.Common.{◌≡◌, ◌≢◌, ◌⊎◌, ◌≤◌, ℕ, cond, List, [], ◌∷◌, length, sym, ◌∙◌, ap, subst, inl, inr, refl, arith}
 use Rattle.std.specs.Prelude.{Contains, Option, Some}
 use Rattle.std.proofs.lemmas.Bool.{eq-eqb}
-use Rattle.dom_base.specs.declared.names.As.{As}
-use Rattle.dom_base.specs.declared.names.Peer.{Peer}
-use Rattle.dom_base.specs.declared.names.Peer.TheVariants.{Outside}
+use Rattle.plant_model.specs.Types.{As, Peer, Outside, Path, Reply, Request, Issued, NetworkParts, Answer, Class}
 use Rattle.pcep_messages.specs.Spelling.{IsWritten}
-use Rattle.pcep_messages.specs.declared.message.Path.{Path}
-use Rattle.pcep_messages.specs.declared.message.Reply.{Reply}
 use Rattle.pcep_messages.specs.declared.message.Message.TheVariants as messages
-use Rattle.pcep_messages.specs.declared.message.Request.{Request}
-use Rattle.path_keys.specs.declared.issued.Issued.{Issued}
-use Rattle.plant_text.specs.declared.settings.NetworkParts.{NetworkParts}
 use Rattle.plant_model.specs.declared.output.Output.{Output}
 use Rattle.plant_text.specs.Names.{same_as, parent_as}
 use Rattle.plant_model.specs.Wire.{Codec}
@@ -55,10 +48,8 @@ use Rattle.plant_laws.proofs.WrittenForm.ReadBack.{run_single}
 use Rattle.plant_laws.proofs.Least.ViaParent.{above_says}
 use Rattle.plant_laws.proofs.Runs.Moments.{within_trans, opened_within, no_more}
 use Rattle.plant_laws.proofs.Least.FromElement.{within_tail}
-use Rattle.pcep_messages.specs.declared.message.Answer.{Answer}
 use Rattle.plant_laws.specs.Certified.{Tells, IsServed, SolvesCertifyIn}
 use Rattle.plant_model.specs.Jobs.{entries_of, target_along}
-use Rattle.disclosure.specs.declared.class.Class.{Class}
 use Rattle.te_links.specs.Rows.{Rows}
 use Rattle.border_costs.specs.Solutions.{AreRows}
 use Rattle.plant_laws.proofs.WrittenForm.WhereWritten.{WrittenNet, WrittenNetIds}

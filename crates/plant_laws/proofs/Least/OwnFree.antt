@@ -1,15 +1,10 @@
 -- What is said of a walk through several domains does not depend on the domain that the query names as its own.
 use Rattle.std.proofs.Common.{◌≡◌, ◌+◌, ℕ, Bool, false, List, [], ◌∷◌, ◌∙◌, ap, refl, arith}
-use Rattle.dom_base.specs.declared.addr.Addr.{Addr}
-use Rattle.dom_base.specs.declared.names.As.{As}
-use Rattle.dom_base.specs.declared.link.Link.{Link}
-use Rattle.dom_base.specs.declared.query.Query.{Query}
+use Rattle.plant_model.specs.Types.{Addr, As, Link, Query, Hop, NetworkParts}
 use Rattle.dom_base.specs.Admission.{weight}
 use Rattle.te_links.specs.Rows.{Rows}
-use Rattle.pcep_subobjects.specs.declared.hop.Hop.{Hop}
 use Rattle.walk_laws.specs.Walks.{cost}
 use Rattle.walk_laws.specs.Crossing.{Leg, Goal, Last, Links, Over, CrossingWalk, crossing_cost, query_in, IsFeasibleCrossing, IsLeastCrossing}
-use Rattle.plant_text.specs.declared.settings.NetworkParts.{NetworkParts}
 use Rattle.plant_laws.specs.Transcript.{Visit, pinned, domains}
 use Rattle.plant_laws.specs.Ends.{End, Inside, Asked, goal_of}
 use Rattle.plant_laws.specs.Shown.{ShowsLast, ShowsAlong}

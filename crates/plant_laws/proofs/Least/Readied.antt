@@ -2,15 +2,10 @@
 use Rattle.std.proofs.Common.{◌≡◌, ◌⊎◌, ℕ, Bool, true, false, cond, Option, Some, None, List, [], ◌∷◌, ◌++◌, length, drop, map, inl, inr, sym, ◌∙◌, ap, subst, refl}
 use Rattle.std.proofs.lemmas.Bool.{cases_Bool, eqb-true}
 use Rattle.std.specs.Option.{option_map}
-use Rattle.dom_base.specs.declared.names.As.{As}
-use Rattle.dom_base.specs.declared.names.Peer.{Peer}
-use Rattle.dom_base.specs.declared.names.Peer.TheVariants.{Outside, Inner}
+use Rattle.plant_model.specs.Types.{As, Peer, Outside, Inner, Message, RequestKey, NetworkParts, Held, Path, Reply, Wanted, Class, Branch}
 use Rattle.te_links.specs.Rows.{Rows}
-use Rattle.pcep_messages.specs.declared.message.Message.{Message}
 use Rattle.disclosure.specs.Shown.{open_of}
-use Rattle.request_table.specs.declared.held.RequestKey.{RequestKey}
 use Rattle.request_table.specs.Pending.{Pending}
-use Rattle.plant_text.specs.declared.settings.NetworkParts.{NetworkParts}
 use Rattle.plant_model.specs.declared.output.Output.{Output}
 use Rattle.plant_text.specs.Names.{same_as, parent_as}
 use Rattle.plant_model.specs.Names.{the_parent, set_as}
@@ -34,13 +29,7 @@ use Rattle.plant_laws.proofs.Once.Opened.{AreSingle, Holds, puts_elements, set_p
 use Rattle.plant_laws.proofs.Once.OpenedRuns.{give_single, fall_single, rise_single, bare_holds}
 use Rattle.plant_laws.proofs.Numbering.SentOn.{IsRest}
 use Rattle.std.specs.Prelude.{◌==◌}
-use Rattle.request_table.specs.declared.held.Held.{Held}
 use Rattle.pcep_messages.specs.declared.message.Message.TheVariants as messages
-use Rattle.pcep_messages.specs.declared.message.Path.{Path}
-use Rattle.pcep_messages.specs.declared.message.Reply.{Reply}
-use Rattle.pcep_messages.specs.declared.message.Wanted.{Wanted}
-use Rattle.disclosure.specs.declared.class.Class.{Class}
-use Rattle.vspt_tree.specs.declared.branch.Branch.{Branch}
 use Rattle.request_table.specs.Pending.{same_peer, same_key, NumbersRise, AreNamedOnce}
 use Rattle.request_table.proofs.KeyLemmas.{same_key_is}
 use Rattle.plant_model.specs.Branches.{branches_in}

@@ -1,21 +1,13 @@
 -- What a solve sends, by cases.
 use Rattle.std.proofs.Common.{◌≡◌, ◌⊎◌, ℕ, Bool, true, false, cond, nat_lt, List, [], ◌∷◌, length, Option, Some, None, Ok, Err, sym, ◌∙◌, ap, subst, inl, inr, refl}
 use Rattle.std.proofs.Common.{ltb-true, ltb-false}
-use Rattle.dom_base.specs.declared.names.As.{As}
-use Rattle.dom_base.specs.declared.addr.Addr.{Addr}
-use Rattle.pcep_messages.specs.declared.message.Message.{Message}
+use Rattle.plant_model.specs.Types.{As, Addr, Message, Seed, Class, Best, Branch, Ask, NetworkParts}
 use Rattle.te_links.specs.Rows.{Rows}
-use Rattle.dom_base.specs.declared.query.Seed.{Seed}
-use Rattle.disclosure.specs.declared.class.Class.{Class}
 use Rattle.disclosure.specs.declared.class.Class.TheVariants.{Client, Neighbour, Parent}
-use Rattle.vspt_tree.specs.declared.branch.Best.{Best}
-use Rattle.vspt_tree.specs.declared.branch.Branch.{Branch}
-use Rattle.border_costs.specs.declared.job.Ask.{Ask}
 use Rattle.border_costs.specs.declared.answer.Answer.{Answer}
 use Rattle.border_costs.specs.Solutions.{AreRows, AreBest}
 use Rattle.plant_model.specs.declared.outcome.Outcome.{Outcome}
 use Rattle.plant_model.specs.declared.outcome.Refused.{Refused}
-use Rattle.plant_text.specs.declared.settings.NetworkParts.{NetworkParts}
 use Rattle.plant_model.specs.declared.event.Event.TheVariants as event
 use Rattle.plant_model.specs.declared.output.Output.{Output}
 use Rattle.plant_text.specs.Names.{parent_as}

@@ -3,17 +3,9 @@ use Rattle.std.proofs.Common.{◌≡◌, ◌+◌, ◌≤◌, ℕ, Bool, true, fa
 use Rattle.std.specs.Prelude.{Contains}
 use Rattle.std.proofs.lemmas.Bool.{lt-ltb}
 use Rattle.std.proofs.lemmas.List.Elements.{Contains-append_left, Contains-append_right}
-use Rattle.dom_base.specs.declared.addr.Addr.{Addr}
-use Rattle.dom_base.specs.declared.names.Peer.{Peer}
-use Rattle.dom_base.specs.declared.query.Metric.{Metric}
-use Rattle.pcep_messages.specs.declared.message.Path.{Path}
-use Rattle.pcep_messages.specs.declared.message.Reply.{Reply}
-use Rattle.pcep_messages.specs.declared.message.Message.{Message}
+use Rattle.plant_model.specs.Types.{Addr, Peer, Metric, Path, Reply, Message, Issued, Best, Branch}
 use Rattle.pcep_messages.specs.declared.message.Message.TheVariants as messages
-use Rattle.path_keys.specs.declared.issued.Issued.{Issued}
 use Rattle.path_keys.specs.Keys.{Keys, is_live, live_at, issue_of}
-use Rattle.vspt_tree.specs.declared.branch.Best.{Best}
-use Rattle.vspt_tree.specs.declared.branch.Branch.{Branch}
 use Rattle.plant_model.specs.declared.output.Output.{Output}
 use Rattle.plant_model.specs.Wire.{Codec}
 use Rattle.plant_model.specs.Branches.{closed_branch, path_of}

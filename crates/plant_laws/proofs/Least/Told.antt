@@ -5,20 +5,11 @@ use Rattle.std.proofs.lemmas.Bool.{eq-eqb, le-leb}
 use Rattle.std.proofs.lemmas.List.Elements.{Contains-append_left, Contains-append_right, Contains-append_cases}
 use Rattle.std.specs.declared.option.Option.{Option}
 use Rattle.dom_base.specs.declared.limits.TheConstants.{COST_MAX}
-use Rattle.dom_base.specs.declared.addr.Addr.{Addr}
-use Rattle.dom_base.specs.declared.names.As.{As}
-use Rattle.dom_base.specs.declared.query.Query.{Query}
-use Rattle.dom_base.specs.declared.query.Metric.{Metric}
-use Rattle.te_links.specs.declared.rows.Entry.{Entry}
+use Rattle.plant_model.specs.Types.{Addr, As, Query, Metric, Entry, Hop, Path, Wanted, Branch, NetworkParts}
 use Rattle.te_links.specs.Rows.{Rows}
-use Rattle.pcep_subobjects.specs.declared.hop.Hop.{Hop}
-use Rattle.pcep_messages.specs.declared.message.Path.{Path}
-use Rattle.pcep_messages.specs.declared.message.Wanted.{Wanted}
 use Rattle.walk_laws.specs.Crossing.{Leg, Goal, Last, Links, Over, crossing_cost, IsLeastCost}
 use Rattle.walk_laws.specs.Composition.{IsEntryFrom, AreBeyond}
-use Rattle.vspt_tree.specs.declared.branch.Branch.{Branch}
 use Rattle.border_costs.specs.Asks.{beyond}
-use Rattle.plant_text.specs.declared.settings.NetworkParts.{NetworkParts}
 use Rattle.plant_text.specs.Names.{same_as}
 use Rattle.plant_model.specs.Wire.{Codec}
 use Rattle.pcep_messages.specs.Requests.{type_of_metric}

@@ -3,24 +3,15 @@ use Rattle.std.proofs.Common.{◌≡◌, ◌≤◌, ℕ, List, [], ◌∷◌, �
 use Rattle.std.specs.Prelude.{Contains, None, true, false}
 use Rattle.std.specs.declared.option.Option.{Option}
 use Rattle.dom_base.specs.declared.limits.TheConstants.{COST_MAX}
-use Rattle.dom_base.specs.declared.addr.Addr.{Addr}
-use Rattle.dom_base.specs.declared.names.As.{As}
-use Rattle.dom_base.specs.declared.query.Query.{Query}
+use Rattle.plant_model.specs.Types.{Addr, As, Query, Hop, Path, Wanted, Best, Branch, Issued, NetworkParts}
 use Rattle.dom_base.specs.Admission.{Allows}
 use Rattle.te_links.specs.Rows.{Rows}
-use Rattle.pcep_subobjects.specs.declared.hop.Hop.{Hop}
-use Rattle.pcep_messages.specs.declared.message.Path.{Path}
-use Rattle.pcep_messages.specs.declared.message.Wanted.{Wanted}
 use Rattle.walk_laws.specs.Walks.{Walk}
 use Rattle.walk_laws.specs.Borders.{Beyond, LeadsTo}
 use Rattle.walk_laws.specs.Crossing.{Leg, Goal, At, Last, Links, Over, Crosses, CrossingWalk, crossing_cost, query_in, IsLeastCrossing, IsLeastCost}
 use Rattle.walk_laws.specs.Composition.{IsEntryFrom, AreBeyond}
-use Rattle.vspt_tree.specs.declared.branch.Best.{Best}
-use Rattle.vspt_tree.specs.declared.branch.Branch.{Branch}
 use Rattle.border_costs.specs.declared.job.Target.TheVariants.{Node, Next}
 use Rattle.disclosure.specs.Shown.{open_of, closed_of}
-use Rattle.path_keys.specs.declared.issued.Issued.{Issued}
-use Rattle.plant_text.specs.declared.settings.NetworkParts.{NetworkParts}
 use Rattle.plant_model.specs.Wire.{Codec}
 use Rattle.plant_model.specs.Branches.{hops_of, onward, open_branch, closed_branch, end_of, branches_in, downs}
 use Rattle.plant_model.specs.Laws.{IsCodec}

@@ -1,18 +1,9 @@
 -- The id and the sequence of a request, read off its message; and ids that rise along a queue.
 use Rattle.std.proofs.Common.{◌≡◌, ◌≤◌, ◌<◌, ℕ, Bool, true, false, cond, map, List, [], ◌∷◌, ◌++◌, Option, Some, None, sym, ◌∙◌, ap, subst, inl, inr, refl, arith}
-use Rattle.dom_base.specs.declared.names.As.{As}
-use Rattle.dom_base.specs.declared.addr.Addr.{Addr}
-use Rattle.dom_base.specs.declared.names.Peer.TheVariants.{Inner}
-use Rattle.dom_base.specs.declared.query.Exclusion.{Exclusion}
-use Rattle.pcep_subobjects.specs.declared.hop.Hop.{Hop}
+use Rattle.plant_model.specs.Types.{As, Addr, Exclusion, Hop, Object, Body, Message, Asked, Wanted, Inner}
 use Rattle.pcep_subobjects.specs.declared.hop.Hop.TheVariants as hops
-use Rattle.pcep_objects.specs.declared.object.Object.{Object}
-use Rattle.pcep_objects.specs.declared.object.Body.{Body}
 use Rattle.pcep_objects.specs.declared.object.Body.TheVariants as bodies
-use Rattle.pcep_messages.specs.declared.message.Message.{Message}
 use Rattle.pcep_messages.specs.declared.message.Message.TheVariants as messages
-use Rattle.pcep_messages.specs.declared.message.Asked.{Asked}
-use Rattle.pcep_messages.specs.declared.message.Wanted.{Wanted}
 use Rattle.plant_model.specs.declared.output.Output.{Output}
 use Rattle.request_table.specs.Pending.{same_peer}
 use Rattle.plant_text.specs.Names.{parent_as}

@@ -1,16 +1,10 @@
 -- Which message asks an element, or the parent, for a request, and what is done with it; and what an answer does.
 use Rattle.std.proofs.Common.{◌≡◌, ◌⊎◌, ◌≤◌, ℕ, Bool, true, false, cond, List, ◌∷◌, Some, None, sym, ◌∙◌, subst, refl, inr}
-use Rattle.dom_base.specs.declared.names.As.{As}
-use Rattle.dom_base.specs.declared.addr.Addr.{Addr}
-use Rattle.dom_base.specs.declared.names.Peer.TheVariants.{Inner}
+use Rattle.plant_model.specs.Types.{As, Addr, Asked, Message, Wanted, NetworkParts, Inner}
 use Rattle.disclosure.specs.Shown.{open_of}
 use Rattle.disclosure.specs.declared.class.Class.TheVariants.{Neighbour, Parent}
-use Rattle.pcep_messages.specs.declared.message.Asked.{Asked}
-use Rattle.pcep_messages.specs.declared.message.Message.{Message}
-use Rattle.pcep_messages.specs.declared.message.Wanted.{Wanted}
 use Rattle.pcep_messages.specs.declared.message.Wish.TheVariants.{Path}
 use Rattle.request_table.specs.Pending.{ArePending, number_of}
-use Rattle.plant_text.specs.declared.settings.NetworkParts.{NetworkParts}
 use Rattle.plant_model.specs.declared.output.Output.{Output}
 use Rattle.plant_text.specs.Names.{same_as, parent_as}
 use Rattle.plant_model.specs.Wire.{Codec, Admitted, Wrong}

@@ -1,10 +1,7 @@
 -- Answers to open requests: all but what is said to a message that asks.
 use Rattle.std.proofs.Common.{◌≡◌, ◌+◌, nat_eq, ℕ, Bool, true, false, cond, [], ◌∷◌, refl, arith}
-use Rattle.dom_base.specs.declared.names.As.{As}
-use Rattle.dom_base.specs.declared.names.Peer.{Peer}
-use Rattle.pcep_messages.specs.declared.message.Message.{Message}
+use Rattle.plant_model.specs.Types.{As, Peer, Message, Own}
 use Rattle.pcep_messages.specs.declared.message.Message.TheVariants as messages
-use Rattle.pcep_session.specs.declared.actions.Own.{Own}
 use Rattle.pcep_session.specs.declared.actions.Own.TheVariants as own
 use Rattle.request_table.specs.Pending.{same_peer}
 use Rattle.plant_model.specs.Deeds.{own_message}

@@ -3,23 +3,10 @@
 use Rattle.std.proofs.Common.{◌≡◌, ◌⊎◌, ◌+◌, ◌≤◌, ◌<◌, ◌^◌, ◌==◌, nat_eq, nat_lt, ℕ, Bool, true, false, not, cond, map, filter, List, [], ◌∷◌, ◌++◌, length, Option, Some, None, sym, ◌∙◌, ap, subst, inl, inr, refl, arith}
 use Rattle.std.specs.Map.{remove_entry}
 use Rattle.std.proofs.lemmas.Bool.{cases_Bool, eqb-true, eq-eqb}
-use Rattle.dom_base.specs.declared.names.As.{As}
-use Rattle.dom_base.specs.declared.names.Peer.{Peer}
-use Rattle.dom_base.specs.declared.names.Peer.TheVariants.{Outside, Inner}
-use Rattle.pcep_subobjects.specs.declared.hop.Hop.{Hop}
-use Rattle.pcep_messages.specs.declared.message.Answer.{Answer}
+use Rattle.plant_model.specs.Types.{As, Peer, Outside, Inner, Hop, Answer, Message, Request, Reply, Notice, Wanted, Wish, Class, RequestKey, Held, Best, Branch}
 use Rattle.pcep_messages.specs.declared.message.Answer.TheVariants.{Paths, NoPath}
-use Rattle.pcep_messages.specs.declared.message.Message.{Message}
 use Rattle.pcep_messages.specs.declared.message.Message.TheVariants as messages
-use Rattle.pcep_messages.specs.declared.message.Request.{Request}
-use Rattle.pcep_messages.specs.declared.message.Reply.{Reply}
-use Rattle.pcep_messages.specs.declared.message.Notice.{Notice}
-use Rattle.pcep_messages.specs.declared.message.Wanted.{Wanted}
-use Rattle.pcep_messages.specs.declared.message.Wish.{Wish}
 use Rattle.pcep_messages.specs.declared.message.Wish.TheVariants.{Path, Expand}
-use Rattle.disclosure.specs.declared.class.Class.{Class}
-use Rattle.request_table.specs.declared.held.RequestKey.{RequestKey}
-use Rattle.request_table.specs.declared.held.Held.{Held}
 use Rattle.request_table.specs.Pending.{ArePending, NumbersRise, same_peer, same_key, key_of, number_of, number_among, opened_of, is_full}
 use Rattle.request_table.specs.Lends.{with_item}
 use Rattle.request_table.proofs.KeyLemmas.{same_key_is}
@@ -32,8 +19,6 @@ use Rattle.disclosure.specs.Policy.{is_denied}
 use Rattle.plant_model.specs.Element.{Waits, Ready, Element, Item, Row, Way, ElementSettings, Taken, silent, only, each, way_to, waiting, at_stage, fresh_id, with_last, is_client, lost, lost_of, lost_output, is_lost, stays, waits_on, downed}
 use Rattle.plant_model.specs.Routes.{toward}
 use Rattle.plant_model.specs.Taking.{take, take_asked, take_checked, take_new, take_wish, take_path, take_along, send_on, item_of, sequence_or, goes_up, expansion, answered, staged, take_reply, take_answer, made_ready, take_notice, notice_steps, take_busy, take_cancel, told_busy, cancelled, take_report, take_errors, take_failure, told_error, error_answer, sight, wanting}
-use Rattle.vspt_tree.specs.declared.branch.Best.{Best}
-use Rattle.vspt_tree.specs.declared.branch.Branch.{Branch}
 use Rattle.path_keys.specs.Keys.{Keys}
 use Rattle.plant_model.specs.Solving.{commit, closed_reply, client_reply, closed_paths, issued_all, free, job_found}
 use Rattle.plant_laws.specs.Transcript.{one_if, count_answers, tail_of}

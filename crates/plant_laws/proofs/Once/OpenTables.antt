@@ -1,11 +1,9 @@
 -- The law of open requests, from the tables of a run.
 use Rattle.std.proofs.Common.{◌≡◌, ◌≢◌, ℕ, Bool, true, false, cond, Option, Some, None, is_some, List, [], ◌∷◌, Contains, inl, inr, sym, subst, refl}
 use Rattle.std.proofs.lemmas.Bool.{cases_Bool}
-use Rattle.dom_base.specs.declared.names.As.{As}
-use Rattle.dom_base.specs.declared.names.Peer.{Peer}
+use Rattle.plant_model.specs.Types.{As, Peer, NetworkParts}
 use Rattle.request_table.specs.Pending.{Pending, key_of, number_among, number_of}
 use Rattle.request_table.proofs.KeyLemmas.{same_key_is}
-use Rattle.plant_text.specs.declared.settings.NetworkParts.{NetworkParts}
 use Rattle.plant_text.specs.Names.{same_as, parent_as}
 use Rattle.plant_model.specs.Wire.{Codec}
 use Rattle.plant_model.specs.Element.{Row}

@@ -1,13 +1,9 @@
 -- In every run, a reply of paths, or that there are none, comes from a solve, is about a key, or is passed on from the parent.
 use Rattle.std.proofs.Common.{◌≡◌, ◌⊎◌, ℕ, length, Bool, true, false, cond, Option, Some, None, List, [], ◌∷◌, ◌++◌, inl, inr, sym, ◌∙◌, ap, subst, refl, arith}
 use Rattle.std.proofs.lemmas.Bool.{eqb-true, eq-eqb}
-use Rattle.dom_base.specs.declared.names.As.{As}
-use Rattle.dom_base.specs.declared.names.Peer.{Peer}
-use Rattle.dom_base.specs.declared.names.Peer.TheVariants.{Outside, Inner}
+use Rattle.plant_model.specs.Types.{As, Peer, Outside, Inner, Message, NetworkParts, Asked, Path, Reply, Own}
 use Rattle.te_links.specs.Rows.{Rows}
-use Rattle.pcep_messages.specs.declared.message.Message.{Message}
 use Rattle.disclosure.specs.Shown.{open_of}
-use Rattle.plant_text.specs.declared.settings.NetworkParts.{NetworkParts}
 use Rattle.plant_model.specs.declared.output.Output.{Output}
 use Rattle.plant_text.specs.Names.{same_as, parent_as}
 use Rattle.plant_model.specs.Names.{the_parent}
@@ -33,11 +29,7 @@ use Rattle.plant_laws.proofs.Once.OpenedRuns.{give_single, fall_single, rise_sin
 use Rattle.plant_laws.proofs.Numbering.SentOn.{IsRest}
 use Rattle.std.specs.Prelude.{Contains, ◌==◌, map}
 use Rattle.std.proofs.lemmas.List.Elements.{Contains-append_cases}
-use Rattle.pcep_messages.specs.declared.message.Asked.{Asked}
 use Rattle.pcep_messages.specs.declared.message.Message.TheVariants as messages
-use Rattle.pcep_messages.specs.declared.message.Path.{Path}
-use Rattle.pcep_messages.specs.declared.message.Reply.{Reply}
-use Rattle.pcep_session.specs.declared.actions.Own.{Own}
 use Rattle.pcep_session.specs.declared.actions.Own.TheVariants as own
 use Rattle.request_table.specs.Pending.{same_peer}
 use Rattle.plant_model.specs.declared.output.Lost.{Lost}

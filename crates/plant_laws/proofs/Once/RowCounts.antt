@@ -2,9 +2,7 @@
 use Rattle.std.proofs.Common.{◌≡◌, ◌+◌, ◌≤◌, ◌<◌, ◌^◌, ℕ, Bool, true, false, nat_eq, filter, List, [], ◌∷◌, ◌++◌, length, Some, None, sym, ap, subst, inl, inr, refl, arith}
 use Rattle.std.specs.Map.{remove_entry}
 use Rattle.std.proofs.lemmas.Bool.{cases_Bool, eqb-true, eq-eqb}
-use Rattle.dom_base.specs.declared.names.Peer.{Peer}
-use Rattle.request_table.specs.declared.held.RequestKey.{RequestKey}
-use Rattle.request_table.specs.declared.held.Held.{Held}
+use Rattle.plant_model.specs.Types.{Peer, RequestKey, Held}
 use Rattle.request_table.specs.Pending.{Pending, ArePending, NumbersRise, AreNamedOnce, number_among, same_key, key_of, opened_of, closed_of}
 use Rattle.request_table.specs.Lends.{with_item, written_of}
 use Rattle.request_table.proofs.KeyLemmas.{same_key_is, same_key_back}

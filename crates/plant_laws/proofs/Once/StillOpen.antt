@@ -1,14 +1,9 @@
 -- A request that was open when an event came is open when its message is taken, or was ended by then: an event passes one message on.
 use Rattle.std.proofs.Common.{◌≡◌, ℕ, Bool, true, false, cond, ◌==◌, List, [], ◌∷◌, ◌++◌, Option, Some, None, sym, ◌∙◌, ap, subst, inl, inr, refl}
 use Rattle.std.specs.Prelude.{◌⊎◌}
-use Rattle.dom_base.specs.declared.names.As.{As}
-use Rattle.dom_base.specs.declared.names.Peer.{Peer}
-use Rattle.pcep_messages.specs.declared.message.Asked.{Asked}
-use Rattle.dom_base.specs.declared.names.Peer.TheVariants.{Outside}
-use Rattle.pcep_messages.specs.declared.message.Message.{Message}
+use Rattle.plant_model.specs.Types.{As, Peer, Outside, Asked, Message, NetworkParts}
 use Rattle.pcep_messages.specs.declared.message.Message.TheVariants as messages
 use Rattle.request_table.specs.Pending.{same_peer}
-use Rattle.plant_text.specs.declared.settings.NetworkParts.{NetworkParts}
 use Rattle.plant_text.specs.Names.{same_as}
 use Rattle.plant_model.specs.Deeds.{element_of}
 use Rattle.plant_model.specs.Outside.{heeded}

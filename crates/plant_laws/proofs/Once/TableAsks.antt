@@ -2,9 +2,7 @@
 use Rattle.std.proofs.Common.{◌≡◌, ◌&&◌, ◌||◌, ◌<◌, ◌^◌, ◌-◌, ℕ, ◌+◌, Bool, true, false, cond, ◌==◌, nat_le, Option, Some, None, [], ◌∷◌, ◌++◌, length, inl, inr, sym, ◌∙◌, ap, subst, refl, arith}
 use Rattle.std.proofs.lemmas.Bool.{cases_Bool}
 use Rattle.std.proofs.lemmas.Grind.{common_steps}
-use Rattle.dom_base.specs.declared.names.Peer.{Peer}
-use Rattle.pcep_messages.specs.declared.message.Message.{Message}
-use Rattle.request_table.specs.declared.held.RequestKey.{RequestKey}
+use Rattle.plant_model.specs.Types.{Peer, Message, RequestKey}
 use Rattle.request_table.specs.Pending.{Pending, ArePending, key_of, same_peer, same_key, number_of, opened_of, is_full}
 use Rattle.request_table.proofs.KeyLemmas.{same_key_is}
 use Rattle.request_table.proofs.PendingLemmas.{opened_pending}

@@ -2,11 +2,7 @@
 use Rattle.std.proofs.Common.{◌≡◌, ◌&&◌, ℕ, ◌+◌, Bool, true, false, cond, ◌==◌, nat_eq, Some, None, List, [], ◌∷◌, ◌++◌, inl, inr, sym, ◌∙◌, ap, subst, refl, arith}
 use Rattle.std.specs.Map.{remove_entry}
 use Rattle.std.proofs.lemmas.Bool.{cases_Bool}
-use Rattle.dom_base.specs.declared.names.Peer.{Peer}
-use Rattle.pcep_messages.specs.declared.message.Message.{Message}
-use Rattle.pcep_messages.specs.declared.message.Answer.{Answer}
-use Rattle.request_table.specs.declared.held.RequestKey.{RequestKey}
-use Rattle.request_table.specs.declared.held.Held.{Held}
+use Rattle.plant_model.specs.Types.{Peer, Message, Answer, RequestKey, Held}
 use Rattle.request_table.specs.Pending.{Pending, ArePending, key_of, same_peer, same_key, number_of, number_among, closed_of}
 use Rattle.request_table.specs.Lends.{written_of}
 use Rattle.request_table.proofs.KeyLemmas.{same_key_is}

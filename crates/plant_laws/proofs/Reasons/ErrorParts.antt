@@ -1,10 +1,8 @@
 -- What is said to an error of an element, or the parent: what its one error calls for.
 use Rattle.std.proofs.Common.{◌≡◌, ℕ, Bool, List, [], ◌++◌, Option, Some, None, sym, ◌∙◌, ap, subst, inl, inr, refl, arith}
 use Rattle.std.specs.Prelude.{◌⊎◌}
-use Rattle.dom_base.specs.declared.names.Peer.{Peer}
+use Rattle.plant_model.specs.Types.{Peer, Asked, Message}
 use Rattle.pcep_codes.specs.declared.errors.TheConstants as errors
-use Rattle.pcep_messages.specs.declared.message.Asked.{Asked}
-use Rattle.pcep_messages.specs.declared.message.Message.{Message}
 use Rattle.plant_model.specs.declared.output.Output.{Output}
 use Rattle.plant_model.specs.Writing.{error_message}
 use Rattle.plant_laws.specs.MessageCauses.{Asker, IsOutOfProfile, OnError, Part, parts, OnParts}

@@ -6,19 +6,12 @@ use Rattle.std.proofs.lemmas.Bool.{cases_Bool}
 use Rattle.std.proofs.lemmas.List.Elements.{All-nil, All-cons}
 use Rattle.dom_base.specs.AddrOrder.{rank}
 use Rattle.dom_base.specs.Parts.{parts_from}
-use Rattle.dom_base.specs.declared.names.As.{As}
-use Rattle.dom_base.specs.declared.addr.Addr.{Addr}
+use Rattle.plant_model.specs.Types.{As, Addr, Peer, Outside, Inner, ParentLink, Message, ElementRow, PeerRow}
 use Rattle.dom_base.specs.declared.addr.Addr.TheVariants.{V4, V6}
-use Rattle.dom_base.specs.declared.names.Peer.{Peer}
-use Rattle.dom_base.specs.declared.names.Peer.TheVariants.{Outside, Inner}
-use Rattle.dom_base.specs.declared.border.ParentLink.{ParentLink}
 use Rattle.pcep_objects.specs.Bodies.{body_of}
 use Rattle.pcep_messages.specs.Refusals.{is_bound, is_minimised}
-use Rattle.pcep_messages.specs.declared.message.Message.{Message}
 use Rattle.pcep_messages.specs.declared.message.Message.TheVariants as messages
 use Rattle.request_table.specs.Pending.{same_peer}
-use Rattle.plant_text.specs.declared.settings.ElementRow.{ElementRow}
-use Rattle.plant_text.specs.declared.settings.PeerRow.{PeerRow}
 use Rattle.plant_text.specs.Names.{same_as, parent_as}
 use Rattle.plant_text.specs.Settings.{is_element}
 use Rattle.plant_model.specs.declared.output.Output.{Output}

@@ -1,17 +1,11 @@
 -- A peer that opens no connection has none in the run of the sample.
 use Rattle.std.proofs.Common.{◌≡◌, ℕ, ◌%◌, ◌+◌, ◌==◌, Bool, true, false, cond, List, [], ◌∷◌, Option, Some, None, is_some, ◌∙◌, ap, refl, eqb-true}
-use Rattle.dom_base.specs.declared.names.As.{As}
+use Rattle.plant_model.specs.Types.{As, Peer, Outside, Inner, Message, Input, Action, Own}
 use Rattle.dom_base.specs.declared.addr.Addr.TheVariants.{V4}
-use Rattle.dom_base.specs.declared.names.Peer.{Peer}
-use Rattle.dom_base.specs.declared.names.Peer.TheVariants.{Outside, Inner}
 use Rattle.disclosure.specs.Shown.{open_of}
-use Rattle.pcep_messages.specs.declared.message.Message.{Message}
 use Rattle.pcep_messages.specs.declared.message.Message.TheVariants as messages
-use Rattle.pcep_session.specs.declared.session.Input.{Input}
 use Rattle.pcep_session.specs.declared.session.Input.TheVariants as input
-use Rattle.pcep_session.specs.declared.actions.Action.{Action}
 use Rattle.pcep_session.specs.declared.actions.Action.TheVariants as action
-use Rattle.pcep_session.specs.declared.actions.Own.{Own}
 use Rattle.pcep_session.specs.Table.{new_state, turn_of}
 use Rattle.border_costs.specs.declared.answer.Answer.{Answer}
 use Rattle.plant_text.specs.Names.{same_as, parent_as}

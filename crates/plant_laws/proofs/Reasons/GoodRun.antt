@@ -6,25 +6,18 @@ use Rattle.std.specs.Map.{lookup}
 use Rattle.std.proofs.lemmas.List.Elements.{All-nil, All-cons}
 use Rattle.dom_base.specs.AddrOrder.{rank}
 use Rattle.dom_base.specs.Parts.{parts_from}
-use Rattle.dom_base.specs.declared.names.As.{As}
+use Rattle.plant_model.specs.Types.{As, Asked, Reply, Wanted, Held, NetworkParts, PeerRow, Outside, Inner}
 use Rattle.dom_base.specs.declared.addr.Addr.TheVariants.{V4}
-use Rattle.dom_base.specs.declared.names.Peer.TheVariants.{Outside, Inner}
 use Rattle.pcep_objects.specs.Bodies.{body_of}
 use Rattle.pcep_messages.specs.Refusals.{is_bound, is_minimised}
-use Rattle.pcep_messages.specs.declared.message.Asked.{Asked}
 use Rattle.pcep_messages.specs.declared.message.Answer.TheVariants.{NoPath}
 use Rattle.pcep_messages.specs.declared.message.Message.TheVariants as messages
-use Rattle.pcep_messages.specs.declared.message.Reply.{Reply}
-use Rattle.pcep_messages.specs.declared.message.Wanted.{Wanted}
 use Rattle.disclosure.specs.declared.class.Class.TheVariants.{Client, Neighbour}
-use Rattle.request_table.specs.declared.held.Held.{Held}
 use Rattle.te_generations.specs.Live.{empty_rows}
 use Rattle.walk_laws.specs.Crossing.{query_in}
 use Rattle.border_costs.specs.declared.answer.Answer.{Answer}
 use Rattle.border_costs.specs.Asks.{target_seed}
 use Rattle.border_costs.specs.Solutions.{AreRows}
-use Rattle.plant_text.specs.declared.settings.NetworkParts.{NetworkParts}
-use Rattle.plant_text.specs.declared.settings.PeerRow.{PeerRow}
 use Rattle.plant_model.specs.declared.event.Event.{Event}
 use Rattle.plant_model.specs.declared.event.Event.TheVariants as event
 use Rattle.plant_model.specs.declared.output.Output.{Output}

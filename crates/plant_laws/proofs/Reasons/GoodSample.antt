@@ -3,19 +3,11 @@ use Rattle.std.proofs.Common.{◌≡◌, ◌≤◌, ℕ, Bool, true, false, cond
 use Rattle.std.specs.Prelude.{◌⊎◌, Contains}
 use Rattle.dom_base.specs.AddrOrder.{rank}
 use Rattle.dom_base.specs.Parts.{parts_from}
-use Rattle.dom_base.specs.declared.names.As.{As}
+use Rattle.plant_model.specs.Types.{As, Peer, Outside, Inner, Asked, Message, Notice, Request, Wanted, Wish, NetworkParts}
 use Rattle.dom_base.specs.declared.addr.Addr.TheVariants.{V4}
-use Rattle.dom_base.specs.declared.names.Peer.{Peer}
-use Rattle.dom_base.specs.declared.names.Peer.TheVariants.{Outside, Inner}
 use Rattle.pcep_objects.specs.Bodies.{body_of}
 use Rattle.pcep_messages.specs.Refusals.{is_bound, is_minimised}
-use Rattle.pcep_messages.specs.declared.message.Asked.{Asked}
-use Rattle.pcep_messages.specs.declared.message.Message.{Message}
 use Rattle.pcep_messages.specs.declared.message.Message.TheVariants as messages
-use Rattle.pcep_messages.specs.declared.message.Notice.{Notice}
-use Rattle.pcep_messages.specs.declared.message.Request.{Request}
-use Rattle.pcep_messages.specs.declared.message.Wanted.{Wanted}
-use Rattle.pcep_messages.specs.declared.message.Wish.{Wish}
 use Rattle.pcep_messages.specs.declared.message.Wish.TheVariants as wishes
 use Rattle.request_table.specs.Pending.{Pending, IsFull}
 use Rattle.plant_text.specs.Names.{parent_as}
@@ -30,7 +22,6 @@ use Rattle.plant_model.specs.Samples.{As_}
 use Rattle.plant_model.specs.Settings.{place}
 use Rattle.plant_model.specs.State.{Pops, Takes, Downs, Solves}
 use Rattle.plant_model.specs.Plant.{Pin, Plant, PlantDeed, Entry, Run, deeds_of}
-use Rattle.plant_text.specs.declared.settings.NetworkParts.{NetworkParts}
 use Rattle.plant_laws.specs.Answered.{DropsFor, cancelled, went_down}
 use Rattle.plant_laws.specs.Broken.{IsStopped}
 use Rattle.plant_laws.specs.Full.{IsCrowded, LacksKeys}

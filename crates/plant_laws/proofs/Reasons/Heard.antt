@@ -1,16 +1,12 @@
 -- What an element says to notices and errors is about one of their parts, and about a request that waited for it before the message.
 use Rattle.std.proofs.Common.{◌≡◌, ℕ, true, List, [], ◌∷◌, ◌++◌, map, sym, ◌∙◌, ap, subst, inl, inr, refl}
 use Rattle.std.specs.Prelude.{◌⊎◌, Some, None}
-use Rattle.dom_base.specs.declared.names.As.{As}
-use Rattle.dom_base.specs.declared.names.Peer.{Peer}
+use Rattle.plant_model.specs.Types.{As, Peer, ErrorReport, Notice, NetworkParts}
 use Rattle.disclosure.specs.Shown.{open_of}
 use Rattle.pcep_codes.specs.declared.errors.TheConstants as errors
 use Rattle.pcep_codes.specs.declared.notices.TheConstants as notices
-use Rattle.pcep_messages.specs.declared.message.ErrorReport.{ErrorReport}
 use Rattle.pcep_messages.specs.declared.message.Message.TheVariants as messages
-use Rattle.pcep_messages.specs.declared.message.Notice.{Notice}
 use Rattle.request_table.specs.Pending.{same_peer}
-use Rattle.plant_text.specs.declared.settings.NetworkParts.{NetworkParts}
 use Rattle.plant_text.specs.Settings.{class_of}
 use Rattle.plant_model.specs.declared.output.Output.{Output}
 use Rattle.plant_model.specs.Names.{the_parent, has_pair}

@@ -2,7 +2,7 @@
 use Rattle.std.proofs.Common.{◌≡◌, ℕ, Bool, true, false, cond, List, [], ◌∷◌, map, filter, sym, ◌∙◌, ap, inl, inr, refl}
 use Rattle.std.proofs.lemmas.Bool.{cases_Bool}
 use Rattle.std.specs.Prelude.{Contains}
-use Rattle.dom_base.specs.declared.names.Peer.{Peer}
+use Rattle.plant_model.specs.Types.{Peer}
 use Rattle.request_table.specs.Pending.{same_peer}
 use Rattle.request_table.proofs.KeyLemmas.{same_peer_self}
 use Rattle.plant_model.specs.Element.{Stage, Waits, Ready, Row, waits_on, lost_of, lost_output, is_lost, lost}

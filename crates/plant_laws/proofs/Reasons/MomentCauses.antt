@@ -1,9 +1,8 @@
 -- In every moment of a run a deed has its cause, in the state that its event met.
 use Rattle.std.proofs.Common.{◌≡◌, Bool, true, false, cond, List, [], ◌∷◌, ◌++◌, Ok, Err, sym, ap, subst, inl, inr, refl}
 use Rattle.std.specs.Prelude.{◌⊎◌}
-use Rattle.dom_base.specs.declared.names.As.{As}
+use Rattle.plant_model.specs.Types.{As, NetworkParts}
 use Rattle.pcep_session.specs.declared.actions.Own.TheVariants as own
-use Rattle.plant_text.specs.declared.settings.NetworkParts.{NetworkParts}
 use Rattle.plant_text.specs.Names.{same_as}
 use Rattle.plant_text.specs.Settings.{Adjacency, adjacencies}
 use Rattle.plant_model.specs.declared.event.Event.{Event}

@@ -1,11 +1,8 @@
 -- What an element or the parent takes of another was sent before; and what is sent so asks for what is admitted.
 use Rattle.std.proofs.Common.{List, ◌∷◌, sym, subst, inl, inr, refl}
 use Rattle.std.specs.Prelude.{Contains}
-use Rattle.dom_base.specs.declared.names.As.{As}
-use Rattle.dom_base.specs.declared.names.Peer.TheVariants.{Inner}
-use Rattle.pcep_messages.specs.declared.message.Message.{Message}
+use Rattle.plant_model.specs.Types.{As, Message, NetworkParts, Inner}
 use Rattle.pcep_messages.specs.Spelling.{IsWritten}
-use Rattle.plant_text.specs.declared.settings.NetworkParts.{NetworkParts}
 use Rattle.plant_model.specs.declared.output.Output.{Output}
 use Rattle.plant_model.specs.Wire.{Codec}
 use Rattle.plant_model.specs.Laws.{IsCodec, IsNetwork}

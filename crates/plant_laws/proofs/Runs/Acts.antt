@@ -1,12 +1,6 @@
 -- An event is done in acts, one after the other. Each act leaves the topologies, and is one of a few kinds.
 use Rattle.std.specs.Prelude.{◌≡◌, ℕ, List, [], ◌∷◌, ◌++◌, Some}
-use Rattle.dom_base.specs.declared.names.As.{As}
-use Rattle.dom_base.specs.declared.names.Peer.{Peer}
-use Rattle.dom_base.specs.declared.names.Peer.TheVariants.{Outside, Inner}
-use Rattle.pcep_subobjects.specs.declared.hop.Hop.{Hop}
-use Rattle.pcep_messages.specs.declared.message.Message.{Message}
-use Rattle.pcep_session.specs.declared.actions.Own.{Own}
-use Rattle.plant_text.specs.declared.settings.NetworkParts.{NetworkParts}
+use Rattle.plant_model.specs.Types.{As, Peer, Outside, Inner, Hop, Message, Own, NetworkParts}
 use Rattle.plant_model.specs.Names.{set_pair}
 use Rattle.plant_model.specs.Wire.{Bytes, Codec}
 use Rattle.plant_text.specs.Settings.{Adjacency}

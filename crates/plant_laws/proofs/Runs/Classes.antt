@@ -1,11 +1,7 @@
 -- Each pending request of a run has the class of the peer that asked.
 use Rattle.std.proofs.Common.{◌≡◌, ℕ, Bool, true, false, cond, List, [], ◌∷◌, ◌++◌, sym, ◌∙◌, subst, refl, arith}
-use Rattle.dom_base.specs.declared.names.As.{As}
-use Rattle.dom_base.specs.declared.names.Peer.{Peer}
-use Rattle.dom_base.specs.declared.names.Peer.TheVariants.{Outside, Inner}
+use Rattle.plant_model.specs.Types.{As, Peer, Outside, Inner, Message, NetworkParts, Held}
 use Rattle.disclosure.specs.Shown.{open_of}
-use Rattle.pcep_messages.specs.declared.message.Message.{Message}
-use Rattle.plant_text.specs.declared.settings.NetworkParts.{NetworkParts}
 use Rattle.plant_model.specs.declared.output.Output.{Output}
 use Rattle.plant_text.specs.Names.{same_as, parent_as}
 use Rattle.plant_model.specs.Wire.{Codec}
@@ -18,7 +14,6 @@ use Rattle.plant_model.specs.Settings.{place, family}
 use Rattle.plant_model.specs.State.{Pops, Takes, Ups, Downs}
 use Rattle.plant_model.specs.Deeds.{Going, element_of, own_message, with_parent, with_element, put, put_to, puts, give, rise, fall}
 use Rattle.plant_model.specs.Plant.{Pin, Segment, Plant, Happened, Entry, Run, ElementSolves, ParentSolves}
-use Rattle.request_table.specs.declared.held.Held.{Held}
 use Rattle.plant_laws.specs.Transcript.{Transcript}
 use Rattle.plant_laws.proofs.Runs.Acts.{Acts, rests, hears, carries, nods, hands, rises, falls, says, clears, expires}
 use Rattle.plant_laws.proofs.Least.RowsKept.{Holds, take_keeps, downed_keeps, commit_keeps}

@@ -2,13 +2,10 @@
 use Rattle.std.proofs.Common.{◌≡◌, ◌∙◌, ℕ, Option, Some, None, List, [], ◌∷◌, length, drop, map, ap, refl, arith}
 use Rattle.std.specs.Option.{option_map}
 use mathlib.Core.Path.{fun_ext}
-use Rattle.dom_base.specs.declared.names.Peer.{Peer}
+use Rattle.plant_model.specs.Types.{Peer, Asked, Message, Reply}
 use Rattle.std.specs.List.{AllByRecursion}
 use Rattle.std.proofs.lemmas.List.{length-map}
-use Rattle.pcep_messages.specs.declared.message.Asked.{Asked}
-use Rattle.pcep_messages.specs.declared.message.Message.{Message}
 use Rattle.pcep_messages.specs.declared.message.Message.TheVariants as messages
-use Rattle.pcep_messages.specs.declared.message.Reply.{Reply}
 use Rattle.plant_model.specs.Wire.{Codec}
 use Rattle.plant_model.specs.Laws.{AreWords}
 use Rattle.plant_model.specs.Element.{Row, sent_through, waiting}

@@ -3,8 +3,7 @@ use Rattle.std.proofs.Common.{◌≡◌, ◌≢◌, nat_lt, Bool, true, false, c
 use Rattle.std.specs.Prelude.{All}
 use Rattle.std.specs.List.{AllByRecursion}
 use Rattle.std.proofs.lemmas.List.Elements.{All-head, All-tail}
-use Rattle.dom_base.specs.declared.names.As.{As}
-use Rattle.plant_text.specs.declared.settings.NetworkParts.{NetworkParts}
+use Rattle.plant_model.specs.Types.{As, NetworkParts}
 use Rattle.plant_text.specs.Names.{same_as, same_link, parent_as}
 use Rattle.plant_text.specs.Settings.{children, Adjacency, adjacency, before_adjacency, insert_adjacency, sorted, upward, adjacencies, has_adjacency, is_linked, is_element}
 use Rattle.plant_model.specs.Laws.{IsNetwork}

@@ -1,8 +1,6 @@
 -- The law of readings, from the transcript of a run.
 use Rattle.std.proofs.Common.{◌≡◌, [], ◌∷◌, inl, inr, sym, ap, subst, refl}
-use Rattle.dom_base.specs.declared.names.As.{As}
-use Rattle.dom_base.specs.declared.names.Peer.TheVariants.{Inner}
-use Rattle.pcep_messages.specs.declared.message.Message.{Message}
+use Rattle.plant_model.specs.Types.{As, Message, Inner}
 use Rattle.pcep_messages.specs.declared.message.Message.TheVariants as messages
 use Rattle.plant_model.specs.State.{Takes}
 use Rattle.plant_model.specs.Plant.{PlantDeed, deeds_of}

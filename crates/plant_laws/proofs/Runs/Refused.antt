@@ -1,10 +1,8 @@
 -- An event that is refused changes nothing.
 use Rattle.std.proofs.Common.{◌≡◌, ℕ, Bool, true, false, cond, ◌==◌, List, [], ◌∷◌, Option, Some, None, is_some, sym, subst, inl, inr, refl}
-use Rattle.dom_base.specs.declared.names.As.{As}
+use Rattle.plant_model.specs.Types.{As, Hop, NetworkParts}
 use Rattle.te_links.specs.Rows.{Rows}
-use Rattle.pcep_subobjects.specs.declared.hop.Hop.{Hop}
 use Rattle.disclosure.specs.Shown.{open_of}
-use Rattle.plant_text.specs.declared.settings.NetworkParts.{NetworkParts}
 use Rattle.plant_model.specs.declared.event.Event.{Event}
 use Rattle.plant_model.specs.declared.event.Event.TheVariants as event
 use Rattle.plant_model.specs.Wire.{Bytes, Codec}

@@ -4,10 +4,7 @@ use Rattle.std.specs.Map.{lookup}
 use Rattle.std.proofs.lemmas.Bool.{cases_Bool}
 use Rattle.std.proofs.lemmas.Grind.{common_steps}
 use Rattle.std.proofs.lemmas.Cmp.{nat_eq_equiv}
-use Rattle.dom_base.specs.declared.names.Peer.{Peer}
-use Rattle.dom_base.specs.declared.names.Peer.TheVariants.{Outside, Inner}
-use Rattle.request_table.specs.declared.held.RequestKey.{RequestKey}
-use Rattle.request_table.specs.declared.held.Held.{Held}
+use Rattle.plant_model.specs.Types.{Peer, Outside, Inner, RequestKey, Held}
 use Rattle.request_table.specs.Pending.{Pending, ArePending, same_peer, same_key, number_among, NumbersRise, AreNamedOnce}
 use Rattle.request_table.proofs.KeyLemmas.{same_key_is, same_key_back, same_key_self}
 use Rattle.plant_model.specs.declared.output.Output.{Output}

@@ -1,15 +1,9 @@
 -- A session of a link that stays up passes on what asks or answers, and stays up or begins.
 use Rattle.std.proofs.Common.{◌≡◌, ℕ, Bool, true, false, not, cond, ◌==◌, ◌&&◌, List, Option, Some, None, refl, sym, subst}
-use Rattle.dom_base.specs.declared.names.Tick.{Tick}
-use Rattle.pcep_objects.specs.declared.object.OpenBody.{OpenBody}
-use Rattle.pcep_messages.specs.declared.message.ErrorReport.{ErrorReport}
-use Rattle.pcep_messages.specs.declared.message.Message.{Message}
+use Rattle.plant_model.specs.Types.{Tick, OpenBody, ErrorReport, Message, Input, Phase, State}
 use Rattle.pcep_messages.specs.declared.message.Message.TheVariants as messages
-use Rattle.pcep_session.specs.declared.session.Input.{Input}
 use Rattle.pcep_session.specs.declared.session.Input.TheVariants as input
-use Rattle.pcep_session.specs.declared.state.Phase.{Phase}
 use Rattle.pcep_session.specs.declared.state.Phase.TheVariants as phase
-use Rattle.pcep_session.specs.declared.state.State.{State}
 use Rattle.pcep_session.specs.Reports.{first_error_of, first_opening_of}
 use Rattle.pcep_session.specs.Table.{SessionStep, turn_of, turn_in, open_wait, keep_wait, refused, refused_terms, in_up, up_tick, unknown_type, heard, at_tick, has_passed, is_recent, waits}
 use Rattle.plant_model.specs.Deeds.{any_fall}

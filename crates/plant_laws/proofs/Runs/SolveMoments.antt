@@ -1,12 +1,9 @@
 -- A solve in a transcript is an event of the run: what is shown of each such event holds of each such moment.
 use Rattle.std.proofs.Common.{◌≡◌, ◌⊎◌, ℕ, Bool, true, false, cond, List, [], ◌∷◌, ◌++◌, sym, ap, subst, inl, inr}
-use Rattle.dom_base.specs.declared.names.As.{As}
-use Rattle.pcep_messages.specs.declared.message.Message.{Message}
+use Rattle.plant_model.specs.Types.{As, Message, Issued, NetworkParts}
 use Rattle.pcep_messages.specs.Spelling.{IsWritten}
 use Rattle.disclosure.specs.Shown.{open_of}
-use Rattle.path_keys.specs.declared.issued.Issued.{Issued}
 use Rattle.plant_model.specs.declared.output.Output.{Output}
-use Rattle.plant_text.specs.declared.settings.NetworkParts.{NetworkParts}
 use Rattle.plant_model.specs.declared.event.Event.{Event}
 use Rattle.plant_model.specs.declared.event.Event.TheVariants as event
 use Rattle.plant_text.specs.Names.{same_as, parent_as}

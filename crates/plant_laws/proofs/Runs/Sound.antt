@@ -1,10 +1,8 @@
 -- In every state of a run each pending request has the class of its peer, and pins a topology whose rows stand in order.
 use Rattle.std.proofs.Common.{◌≡◌, ℕ, nat_eq, List, Some}
 use Rattle.std.specs.Map.{lookup}
-use Rattle.dom_base.specs.declared.names.As.{As}
+use Rattle.plant_model.specs.Types.{As, Held, NetworkParts}
 use Rattle.te_links.specs.Rows.{IsInOrder}
-use Rattle.request_table.specs.declared.held.Held.{Held}
-use Rattle.plant_text.specs.declared.settings.NetworkParts.{NetworkParts}
 use Rattle.plant_model.specs.Wire.{Codec}
 use Rattle.plant_model.specs.Element.{Item}
 use Rattle.plant_text.specs.Settings.{class_of}

@@ -1,8 +1,7 @@
 -- A step is done in acts, so what acts keep, steps keep.
 use Rattle.std.proofs.Common.{[], ◌∷◌, ◌++◌, sym, subst}
 use Rattle.disclosure.specs.Shown.{open_of}
-use Rattle.dom_base.specs.declared.names.Peer.TheVariants.{Outside, Inner}
-use Rattle.plant_text.specs.declared.settings.NetworkParts.{NetworkParts}
+use Rattle.plant_model.specs.Types.{NetworkParts, Outside, Inner}
 use Rattle.plant_model.specs.Wire.{Bytes, Codec}
 use Rattle.plant_text.specs.Settings.{Adjacency, adjacency}
 use Rattle.plant_model.specs.State.{Pops}

@@ -2,16 +2,11 @@
 use Rattle.std.proofs.Common.{◌≡◌, ℕ, ◌<◌, suc, Bool, true, false, cond, List, [], ◌∷◌, ◌++◌, sym, ◌∙◌, subst, refl, arith, inl, inr, Option, Some, None, nat_eq}
 use Rattle.std.specs.Prelude.{Contains}
 use Rattle.std.proofs.lemmas.List.Elements.{All-head, All-nil}
-use Rattle.dom_base.specs.declared.names.As.{As}
-use Rattle.dom_base.specs.declared.names.Peer.{Peer}
-use Rattle.dom_base.specs.declared.names.Peer.TheVariants.{Outside, Inner}
+use Rattle.plant_model.specs.Types.{As, Peer, Outside, Inner, Held, Message, NetworkParts}
 use Rattle.std.specs.Map.{lookup}
-use Rattle.request_table.specs.declared.held.Held.{Held}
 use Rattle.te_links.specs.Rows.{Rows, IsTopology, FewDifferent}
 use Rattle.te_generations.specs.Live.{empty_rows}
 use Rattle.disclosure.specs.Shown.{open_of}
-use Rattle.pcep_messages.specs.declared.message.Message.{Message}
-use Rattle.plant_text.specs.declared.settings.NetworkParts.{NetworkParts}
 use Rattle.plant_model.specs.declared.output.Output.{Output}
 use Rattle.plant_text.specs.Names.{same_as, parent_as}
 use Rattle.plant_model.specs.Wire.{Codec}

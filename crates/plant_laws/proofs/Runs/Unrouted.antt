@@ -2,11 +2,7 @@
 -- goes to its own element.
 use Rattle.std.specs.Prelude.{All, false}
 use Rattle.std.proofs.Common.{◌≡◌, ◌∙◌, cond, List, [], ◌∷◌, ◌++◌, map, Option, Some, None, ap, refl}
-use Rattle.dom_base.specs.declared.names.As.{As}
-use Rattle.dom_base.specs.declared.names.Peer.TheVariants.{Inner}
-use Rattle.plant_text.specs.declared.settings.NetworkParts.{NetworkParts}
-use Rattle.plant_text.specs.declared.settings.ElementRow.{ElementRow}
-use Rattle.plant_text.specs.declared.settings.PeerRow.{PeerRow}
+use Rattle.plant_model.specs.Types.{As, NetworkParts, ElementRow, PeerRow, Inner}
 use Rattle.plant_text.specs.Settings.{row_of, deny_at}
 use Rattle.plant_model.specs.declared.route.Route.{Route}
 use Rattle.plant_model.specs.Routes.{routes, toward}

@@ -4,13 +4,7 @@ use Rattle.std.proofs.Common.{◌≡◌, ◌⊎◌, ◌≤◌, ℕ, zero, suc, B
 use Rattle.std.specs.Prelude.{All}
 use Rattle.std.proofs.lemmas.Bool.{cases_Bool, eq-eqb}
 use Rattle.std.proofs.lemmas.List.Elements.{All-head, All-tail}
-use Rattle.dom_base.specs.declared.names.As.{As}
-use Rattle.dom_base.specs.declared.names.Peer.{Peer}
-use Rattle.dom_base.specs.declared.names.Peer.TheVariants.{Outside, Inner}
-use Rattle.request_table.specs.declared.held.Held.{Held}
-use Rattle.plant_text.specs.declared.settings.NetworkParts.{NetworkParts}
-use Rattle.plant_text.specs.declared.settings.ElementRow.{ElementRow}
-use Rattle.plant_text.specs.declared.settings.PeerRow.{PeerRow}
+use Rattle.plant_model.specs.Types.{As, Peer, Outside, Inner, Held, NetworkParts, ElementRow, PeerRow}
 use Rattle.plant_text.specs.Names.{same_as, same_link, parent_as, insert_as}
 use Rattle.plant_text.specs.Settings.{Adjacency, adjacency, before_adjacency, insert_adjacency, sorted, upward, children_of, adjacencies, has_adjacency, is_linked, is_element, row_of, peer_row}
 use Rattle.plant_model.specs.Laws.{IsNetwork}

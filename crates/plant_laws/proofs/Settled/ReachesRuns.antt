@@ -3,21 +3,11 @@ use Rattle.std.proofs.Common.{◌≡◌, ◌≢◌, ℕ, suc, ◌+◌, ◌%◌, 
 use Rattle.std.specs.Prelude.{All}
 use Rattle.std.proofs.lemmas.Bool.{eqb-true, eq-eqb}
 use Rattle.std.proofs.lemmas.List.Elements.{All-head, All-tail}
-use Rattle.dom_base.specs.declared.names.As.{As}
-use Rattle.dom_base.specs.declared.names.Tick.{Tick}
-use Rattle.dom_base.specs.declared.names.Peer.{Peer}
-use Rattle.dom_base.specs.declared.names.Peer.TheVariants.{Outside, Inner}
-use Rattle.pcep_messages.specs.declared.message.Message.{Message}
-use Rattle.pcep_session.specs.declared.session.Input.{Input}
+use Rattle.plant_model.specs.Types.{As, Tick, Peer, Outside, Inner, Message, Input, Action, Own, State as Session, NetworkParts, PeerRow}
 use Rattle.pcep_session.specs.declared.session.Input.TheVariants as input
-use Rattle.pcep_session.specs.declared.actions.Action.{Action}
 use Rattle.pcep_session.specs.declared.actions.Action.TheVariants as action
-use Rattle.pcep_session.specs.declared.actions.Own.{Own}
-use Rattle.pcep_session.specs.declared.state.State.{State as Session}
 use Rattle.pcep_session.specs.Table.{turn_of, new_state}
 use Rattle.disclosure.specs.Shown.{open_of}
-use Rattle.plant_text.specs.declared.settings.NetworkParts.{NetworkParts}
-use Rattle.plant_text.specs.declared.settings.PeerRow.{PeerRow}
 use Rattle.plant_text.specs.Names.{same_as, same_link, parent_as}
 use Rattle.plant_text.specs.Settings.{Adjacency, adjacency, adjacencies, has_adjacency, is_linked, upward, children, sorted, is_element, peer_row, class_of}
 use Rattle.plant_model.specs.declared.event.Event.{Event}

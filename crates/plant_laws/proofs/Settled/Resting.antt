@@ -2,9 +2,7 @@
 use Rattle.std.proofs.Common.{◌≡◌, ℕ, nat_eq, Bool, true, false, cond, List, [], is_some, inl, inr, ap, ◌∙◌, refl}
 use Rattle.std.specs.Map.{lookup}
 use Rattle.std.proofs.lemmas.Bool.{cases_Bool}
-use Rattle.dom_base.specs.declared.names.As.{As}
-use Rattle.request_table.specs.declared.held.Held.{Held}
-use Rattle.plant_text.specs.declared.settings.NetworkParts.{NetworkParts}
+use Rattle.plant_model.specs.Types.{As, Held, NetworkParts}
 use Rattle.plant_text.specs.Names.{same_as, parent_as}
 use Rattle.plant_text.specs.Settings.{is_linked, is_element}
 use Rattle.plant_model.specs.Element.{Item}

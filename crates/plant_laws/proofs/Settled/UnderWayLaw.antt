@@ -3,24 +3,13 @@ use Rattle.std.proofs.Common.{◌≡◌, ◌≢◌, ◌⊎◌, ◌≤◌, ℕ, B
 use Rattle.std.specs.Prelude.{Contains}
 use Rattle.std.proofs.lemmas.Bool.{cases_Bool}
 use Rattle.std.proofs.lemmas.List.Elements.{All-head, All-tail}
-use Rattle.dom_base.specs.declared.names.As.{As}
-use Rattle.dom_base.specs.declared.names.Peer.{Peer}
-use Rattle.dom_base.specs.declared.names.Peer.TheVariants.{Outside, Inner}
-use Rattle.pcep_messages.specs.declared.message.Message.{Message}
-use Rattle.pcep_messages.specs.declared.message.Wanted.{Wanted}
-use Rattle.pcep_messages.specs.declared.message.Wish.{Wish}
+use Rattle.plant_model.specs.Types.{As, Peer, Outside, Inner, Message, Wanted, Wish, Request, NetworkParts, Own, Answer, Notice, Addr}
 use Rattle.pcep_messages.specs.declared.message.Wish.TheVariants.{Path}
-use Rattle.pcep_messages.specs.declared.message.Request.{Request}
-use Rattle.plant_text.specs.declared.settings.NetworkParts.{NetworkParts}
 use Rattle.plant_text.specs.Names.{same_as, parent_as}
 use Rattle.plant_model.specs.Wire.{Bytes, Codec, Admitted}
 use Rattle.plant_model.specs.Writing.{request_message, reply_message, busy, error_message}
 use Rattle.plant_model.specs.Deeds.{own_message}
-use Rattle.pcep_session.specs.declared.actions.Own.{Own}
 use Rattle.pcep_session.specs.declared.actions.Own.TheVariants as own
-use Rattle.pcep_messages.specs.declared.message.Answer.{Answer}
-use Rattle.pcep_messages.specs.declared.message.Notice.{Notice}
-use Rattle.dom_base.specs.declared.addr.Addr.{Addr}
 use Rattle.std.specs.Prelude.{Option}
 use Rattle.plant_model.specs.Laws.{IsCodec, IsSequence}
 use Rattle.plant_text.specs.Settings.{class_of}

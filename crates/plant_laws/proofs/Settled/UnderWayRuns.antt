@@ -1,16 +1,11 @@
 -- In every state of a run what waits is under way, as long as no id comes round and all that is sent is in written form.
 use Rattle.std.proofs.Common.{◌≡◌, ◌≤◌, ◌<◌, ◌==◌, ℕ, Bool, true, false, cond, List, [], ◌∷◌, ◌++◌, Option, Some, None, sym, ◌∙◌, ap, subst, inl, inr, refl, arith}
 use Rattle.std.proofs.lemmas.Bool.{cases_Bool, eq-eqb}
-use Rattle.dom_base.specs.declared.names.As.{As}
-use Rattle.dom_base.specs.declared.names.Peer.{Peer}
-use Rattle.dom_base.specs.declared.names.Peer.TheVariants.{Inner}
+use Rattle.plant_model.specs.Types.{As, Peer, Inner, Held, RequestKey, NetworkParts}
 use Rattle.te_links.specs.Rows.{Rows}
 use Rattle.disclosure.specs.Shown.{open_of}
-use Rattle.request_table.specs.declared.held.Held.{Held}
-use Rattle.request_table.specs.declared.held.RequestKey.{RequestKey}
 use Rattle.request_table.specs.Pending.{AreNamedOnce, number_of, number_among, same_key, same_peer, key_of}
 use Rattle.request_table.proofs.KeyLemmas.{same_key_is, same_key_self}
-use Rattle.plant_text.specs.declared.settings.NetworkParts.{NetworkParts}
 use Rattle.plant_text.specs.Names.{same_as, parent_as}
 use Rattle.plant_model.specs.Names.{same_id}
 use Rattle.plant_model.specs.Wire.{Bytes, Codec}

@@ -2,16 +2,11 @@
 use Rattle.std.proofs.Common.{◌≡◌, ◌⊎◌, ◌<◌, ℕ, length, Bool, true, false, cond, Option, Some, None, List, [], ◌∷◌, ◌++◌, inl, inr, sym, ◌∙◌, ap, subst, refl, arith}
 use Rattle.std.proofs.lemmas.Bool.{cases_Bool}
 use Rattle.std.proofs.lemmas.Grind.{common_steps}
-use Rattle.dom_base.specs.declared.names.As.{As}
-use Rattle.dom_base.specs.declared.names.Peer.{Peer}
-use Rattle.dom_base.specs.declared.names.Peer.TheVariants.{Outside, Inner}
+use Rattle.plant_model.specs.Types.{As, Peer, Outside, Inner, Message, RequestKey, NetworkParts}
 use Rattle.te_links.specs.Rows.{Rows}
-use Rattle.pcep_messages.specs.declared.message.Message.{Message}
 use Rattle.disclosure.specs.Shown.{open_of}
-use Rattle.request_table.specs.declared.held.RequestKey.{RequestKey}
 use Rattle.request_table.specs.Pending.{Pending, key_of, same_key, number_among}
 use Rattle.request_table.proofs.KeyLemmas.{same_key_self}
-use Rattle.plant_text.specs.declared.settings.NetworkParts.{NetworkParts}
 use Rattle.plant_model.specs.declared.output.Output.{Output}
 use Rattle.plant_text.specs.Names.{same_as, parent_as}
 use Rattle.plant_model.specs.Names.{the_parent, set_as}

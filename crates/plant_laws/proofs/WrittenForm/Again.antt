@@ -1,9 +1,7 @@
 -- What is written between elements is read again, where all that a run sends is in written form.
 use Rattle.std.proofs.Common.{◌≡◌, Bool, true, false, cond, List, [], ◌∷◌, Some}
-use Rattle.dom_base.specs.declared.names.As.{As}
-use Rattle.dom_base.specs.declared.names.Peer.TheVariants.{Inner}
+use Rattle.plant_model.specs.Types.{As, Message, Inner}
 use Rattle.pcep_messages.specs.Spelling.{IsWritten}
-use Rattle.pcep_messages.specs.declared.message.Message.{Message}
 use Rattle.request_table.specs.Pending.{same_peer}
 use Rattle.plant_model.specs.declared.output.Output.{Output}
 use Rattle.plant_text.specs.Names.{same_as}

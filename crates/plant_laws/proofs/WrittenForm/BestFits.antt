@@ -5,14 +5,8 @@ use Rattle.std.specs.List.{AllByRecursion}
 use Rattle.std.proofs.lemmas.List.{length-map}
 use Rattle.std.proofs.lemmas.List.Concat.{flat_map-cons}
 use Rattle.std.proofs.lemmas.List.Elements.{All-contains, Contains-append_left, Contains-append_right}
-use Rattle.dom_base.specs.declared.addr.Addr.{Addr}
+use Rattle.plant_model.specs.Types.{Addr, Link, As, Query, Seed, Label, OutLink, Best, Ask, Target}
 use Rattle.dom_base.specs.declared.addr.Addr.TheVariants.{V4, V6}
-use Rattle.dom_base.specs.declared.link.Link.{Link}
-use Rattle.dom_base.specs.declared.names.As.{As}
-use Rattle.dom_base.specs.declared.query.Query.{Query}
-use Rattle.dom_base.specs.declared.query.Seed.{Seed}
-use Rattle.dom_base.specs.declared.query.Label.{Label}
-use Rattle.te_links.specs.declared.rows.OutLink.{OutLink}
 use Rattle.te_links.specs.Rows.{Rows, all_links}
 use Rattle.walk_laws.specs.Walks.{Walk}
 use Rattle.walk_laws.specs.Labels.{IsSegment}
@@ -23,10 +17,7 @@ use Rattle.pcep_subobjects.specs.Hops.{hop_text, hops_text, strict_hop}
 use Rattle.pcep_messages.specs.declared.message.Answer.TheVariants.{Paths}
 use Rattle.pcep_messages.specs.Spelling.{IsWritten}
 use Rattle.disclosure.specs.Shown.{open_of}
-use Rattle.vspt_tree.specs.declared.branch.Best.{Best}
 use Rattle.border_costs.proofs.Members.{contains_none, contains_head, contains_tail, contains_cases}
-use Rattle.border_costs.specs.declared.job.Ask.{Ask}
-use Rattle.border_costs.specs.declared.job.Target.{Target}
 use Rattle.border_costs.specs.declared.job.Target.TheVariants.{Node, Next}
 use Rattle.border_costs.specs.declared.answer.Answer.{Answer}
 use Rattle.border_costs.specs.Solutions.{AreRows, AreBest, IsBest, IsHead}

@@ -4,33 +4,19 @@ use Rattle.std.specs.Prelude.{Option, Some, None}
 use Rattle.std.specs.List.{AllByRecursion, flat_map}
 use Rattle.std.proofs.lemmas.List.Concat.{flat_map-cons, flat_map-append}
 use Rattle.dom_base.specs.declared.limits.TheConstants.{COST_MAX}
-use Rattle.dom_base.specs.declared.addr.Addr.{Addr}
+use Rattle.plant_model.specs.Types.{Addr, As, Peer, Inner, Outside, Query, Metric, Hop, Object, Answer, Path, Reply, Wanted, Issued, Branch, NetworkParts}
 use Rattle.dom_base.specs.declared.addr.Addr.TheVariants.{V4, V6}
-use Rattle.dom_base.specs.declared.names.As.{As}
-use Rattle.dom_base.specs.declared.names.Peer.{Peer}
-use Rattle.dom_base.specs.declared.names.Peer.TheVariants.{Inner, Outside}
-use Rattle.dom_base.specs.declared.query.Query.{Query}
-use Rattle.dom_base.specs.declared.query.Metric.{Metric}
 use Rattle.walk_laws.specs.Crossing.{Leg, Last, Links, Over}
-use Rattle.pcep_subobjects.specs.declared.hop.Hop.{Hop}
 use Rattle.pcep_subobjects.specs.declared.hop.Hop.TheVariants.{Prefix, AsNumber, Key, Other}
 use Rattle.pcep_subobjects.specs.Hops as hops
 use Rattle.pcep_subobjects.specs.Hops.{hop_text, hops_text, strict_hop}
-use Rattle.pcep_objects.specs.declared.object.Object.{Object}
 use Rattle.pcep_objects.specs.Spelling as objects
-use Rattle.pcep_messages.specs.declared.message.Answer.{Answer}
 use Rattle.pcep_messages.specs.declared.message.Answer.TheVariants.{Paths, NoPath}
 use Rattle.pcep_messages.specs.declared.message.Message.TheVariants as messages
-use Rattle.pcep_messages.specs.declared.message.Path.{Path}
-use Rattle.pcep_messages.specs.declared.message.Reply.{Reply}
-use Rattle.pcep_messages.specs.declared.message.Wanted.{Wanted}
 use Rattle.pcep_messages.specs.Spelling.{IsWritten, answer_objects, path_objects, metric_objects}
 use Rattle.outside_part.specs.Ranges.{IsInRange, AreInRange, EachPath}
 use Rattle.outside_part.specs.Rows.{IsPlain}
-use Rattle.path_keys.specs.declared.issued.Issued.{Issued}
 use Rattle.disclosure.specs.Shown.{closed_of}
-use Rattle.vspt_tree.specs.declared.branch.Branch.{Branch}
-use Rattle.plant_text.specs.declared.settings.NetworkParts.{NetworkParts}
 use Rattle.plant_text.specs.Names.{parent_as}
 use Rattle.plant_model.specs.declared.output.Output.{Output}
 use Rattle.plant_model.specs.Wire.{Codec}

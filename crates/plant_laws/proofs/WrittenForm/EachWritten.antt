@@ -1,11 +1,9 @@
 -- Where what solves sent in a run is in written form, all that was sent in it is.
 use Rattle.std.proofs.Common.{◌≡◌, Bool, true, false, cond, List, [], ◌∷◌, ◌++◌, sym, ◌∙◌, ap, subst, inl, inr, refl}
-use Rattle.dom_base.specs.declared.names.As.{As}
+use Rattle.plant_model.specs.Types.{As, Message, NetworkParts}
 use Rattle.pcep_subobjects.specs.Subobjects.{AreOctets}
-use Rattle.pcep_messages.specs.declared.message.Message.{Message}
 use Rattle.pcep_messages.specs.Spelling.{IsWritten}
 use Rattle.disclosure.specs.Shown.{open_of}
-use Rattle.plant_text.specs.declared.settings.NetworkParts.{NetworkParts}
 use Rattle.plant_text.specs.Names.{parent_as}
 use Rattle.plant_text.specs.Settings.{is_element}
 use Rattle.plant_model.specs.declared.event.Event.{Event}

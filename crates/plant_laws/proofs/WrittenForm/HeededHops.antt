@@ -1,22 +1,15 @@
 -- The hops of what is heeded of an outside peer's reply: strict hops and path keys, no more than may be, with numbers of their types.
 use Rattle.std.proofs.Common.{◌≡◌, ◌≤◌, ◌*◌, ℕ, Option, Some, None, List, [], ◌∷◌, length, map, inl, inr, sym, subst}
 use Rattle.std.specs.List.{AllByRecursion}
-use Rattle.dom_base.specs.declared.names.As.{As}
-use Rattle.dom_base.specs.declared.names.Peer.TheVariants.{Outside}
+use Rattle.plant_model.specs.Types.{As, Hop, Answer, Message, Path, Reply, NetworkParts, Outside}
 use Rattle.pcep_subobjects.specs.Subobjects.{AreOctets}
-use Rattle.pcep_subobjects.specs.declared.hop.Hop.{Hop}
-use Rattle.pcep_messages.specs.declared.message.Answer.{Answer}
 use Rattle.pcep_messages.specs.declared.message.Answer.TheVariants.{Paths, NoPath}
-use Rattle.pcep_messages.specs.declared.message.Message.{Message}
 use Rattle.pcep_messages.specs.declared.message.Message.TheVariants as messages
-use Rattle.pcep_messages.specs.declared.message.Path.{Path}
-use Rattle.pcep_messages.specs.declared.message.Reply.{Reply}
 use Rattle.outside_part.specs.declared.reported.Reported.{Reported}
 use Rattle.outside_part.specs.Ranges.{IsInRange, AreInRange, EachPath}
 use Rattle.outside_part.specs.Rows.{IsPlain}
 use Rattle.outside_part.specs.Sifting.{rows_of, path_by, sifted_answer}
 use Rattle.outside_part.proofs.SiftedAgain.{all_rows}
-use Rattle.plant_text.specs.declared.settings.NetworkParts.{NetworkParts}
 use Rattle.plant_model.specs.declared.output.Output.{Output}
 use Rattle.plant_model.specs.Wire.{Bytes, Codec}
 use Rattle.plant_model.specs.Laws.{IsCodec}

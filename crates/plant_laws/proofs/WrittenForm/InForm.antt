@@ -4,21 +4,17 @@ use Rattle.std.specs.List.{AllByRecursion, flat_map}
 use Rattle.std.specs.Int.{w32, to_be_bytes}
 use Rattle.std.proofs.lemmas.List.{append-nil}
 use Rattle.pcep_subobjects.specs.Hops as hops
-use Rattle.pcep_objects.specs.declared.object.Object.{Object}
+use Rattle.plant_model.specs.Types.{Object, Answer, Path, Own, Offer}
 use Rattle.pcep_objects.specs.declared.object.Body.TheVariants as bodies
 use Rattle.pcep_objects.specs.Spelling as objects
 use Rattle.pcep_objects.specs.Spelling.{IsWord, object_text}
 use Rattle.pcep_messages.specs.declared.message.Message.TheVariants as messages
-use Rattle.pcep_messages.specs.declared.message.Answer.{Answer}
 use Rattle.pcep_messages.specs.declared.message.Answer.TheVariants.{Paths, NoPath}
-use Rattle.pcep_messages.specs.declared.message.Path.{Path}
 use Rattle.pcep_messages.specs.Spelling.{IsWritten, AreMeasured, answer_objects, metric_objects, path_objects, plain, objects_text, message_text}
-use Rattle.pcep_session.specs.declared.actions.Own.{Own}
 use Rattle.pcep_session.specs.declared.actions.Own.TheVariants as own
 use Rattle.plant_model.specs.Writing.{reply_message, error_message, busy}
 use Rattle.plant_model.specs.Deeds.{own_message}
 use Rattle.plant_model.specs.Laws.{AreWords, HasWords}
-use Rattle.pcep_objects.specs.declared.offer.Offer.{Offer}
 
 -- ---- sessions
 

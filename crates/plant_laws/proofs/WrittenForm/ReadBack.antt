@@ -1,16 +1,11 @@
 -- What is taken from an inner queue is what stood there first, as long as all that is sent is in written form; so messages of
 -- requests have one each.
 use Rattle.std.proofs.Common.{◌≡◌, ℕ, Bool, true, false, cond, Some, List, [], ◌∷◌, ◌++◌, inl, inr, sym, ◌∙◌, ap, subst, refl}
-use Rattle.dom_base.specs.declared.names.As.{As}
-use Rattle.dom_base.specs.declared.names.Peer.{Peer}
-use Rattle.dom_base.specs.declared.names.Peer.TheVariants.{Outside, Inner}
-use Rattle.pcep_messages.specs.declared.message.Message.{Message}
+use Rattle.plant_model.specs.Types.{As, Peer, Outside, Inner, Message, Own, NetworkParts}
 use Rattle.pcep_messages.specs.Spelling.{IsWritten}
-use Rattle.pcep_session.specs.declared.actions.Own.{Own}
 use Rattle.pcep_session.specs.declared.actions.Own.TheVariants as own
 use Rattle.request_table.specs.Pending.{same_peer}
 use Rattle.disclosure.specs.Shown.{open_of}
-use Rattle.plant_text.specs.declared.settings.NetworkParts.{NetworkParts}
 use Rattle.plant_model.specs.declared.output.Output.{Output}
 use Rattle.plant_text.specs.Names.{same_as, same_link, parent_as}
 use Rattle.plant_model.specs.Wire.{Bytes, Codec}

@@ -2,26 +2,15 @@
 -- under an id that fits its word, whatever replies say. So each is read as it was meant: it is taken by itself, and is the one that
 -- stood first in its queue.
 use Rattle.std.proofs.Common.{◌≡◌, ◌⊎◌, ◌≤◌, ℕ, Bool, true, false, cond, Option, Some, None, List, [], ◌∷◌, ◌++◌, length, sym, ◌∙◌, ap, subst, inl, inr, refl, arith}
-use Rattle.dom_base.specs.declared.names.As.{As}
-use Rattle.dom_base.specs.declared.names.Peer.{Peer}
-use Rattle.dom_base.specs.declared.names.Peer.TheVariants.{Outside, Inner}
+use Rattle.plant_model.specs.Types.{As, Peer, Outside, Inner, Hop, Message, Asked, Request, Wanted, Wish, Own, Class, NetworkParts}
 use Rattle.te_links.specs.Rows.{Rows as Topology}
 use Rattle.pcep_subobjects.specs.Subobjects.{AreOctets}
-use Rattle.pcep_subobjects.specs.declared.hop.Hop.{Hop}
-use Rattle.pcep_messages.specs.declared.message.Message.{Message}
 use Rattle.pcep_messages.specs.declared.message.Message.TheVariants as messages
-use Rattle.pcep_messages.specs.declared.message.Asked.{Asked}
-use Rattle.pcep_messages.specs.declared.message.Request.{Request}
-use Rattle.pcep_messages.specs.declared.message.Wanted.{Wanted}
-use Rattle.pcep_messages.specs.declared.message.Wish.{Wish}
 use Rattle.pcep_messages.specs.declared.message.Wish.TheVariants.{Path, Expand}
-use Rattle.pcep_session.specs.declared.actions.Own.{Own}
 use Rattle.pcep_session.specs.declared.actions.Own.TheVariants as own
-use Rattle.disclosure.specs.declared.class.Class.{Class}
 use Rattle.disclosure.specs.Policy.{is_denied}
 use Rattle.disclosure.specs.Shown.{open_of}
 use Rattle.request_table.specs.Pending.{ArePending, number_of, is_full}
-use Rattle.plant_text.specs.declared.settings.NetworkParts.{NetworkParts}
 use Rattle.plant_text.specs.Names.{same_as, parent_as}
 use Rattle.plant_text.specs.Settings.{class_of, adjacencies}
 use Rattle.plant_model.specs.declared.output.Output.{Output}

@@ -1,7 +1,7 @@
 -- Laws of runs in which all that was sent is in written form.
 use Rattle.std.specs.Prelude.{List}
 use Rattle.pcep_messages.specs.Spelling.{IsWritten}
-use Rattle.plant_text.specs.declared.settings.NetworkParts.{NetworkParts}
+use Rattle.plant_model.specs.Types.{NetworkParts}
 use Rattle.plant_model.specs.Wire.{Codec}
 use Rattle.plant_model.specs.Laws.{IsCodec, IsNetwork}
 use Rattle.plant_model.specs.Plant.{Plant, Entry, Run, deeds_of}

@@ -2,13 +2,10 @@
 use Rattle.std.proofs.Common.{◌≡◌, ◌≤◌, ◌+◌, ℕ, suc, Bool, true, false, cond, ◌==◌, List, [], ◌∷◌, ◌++◌, Option, Some, None, is_some, length, map, inl, inr, refl, sym, ap, subst, arith, length-append}
 use Rattle.std.proofs.Math.Nat.{le_refl}
 use Rattle.std.proofs.lemmas.Bool.{eq-eqb}
-use Rattle.dom_base.specs.declared.names.As.{As}
-use Rattle.dom_base.specs.declared.names.Peer.TheVariants.{Outside}
+use Rattle.plant_laws.specs.plant_model.Types.{As, Message, NetworkParts, Outside}
 use Rattle.disclosure.specs.Shown.{open_of}
 use Rattle.pcep_framing.specs.Frames.{Framing, IsMessage, AreMessages, joined, FeedsBy}
-use Rattle.pcep_messages.specs.declared.message.Message.{Message}
 use Rattle.pcep_session.specs.declared.session.Input.TheVariants as input
-use Rattle.plant_text.specs.declared.settings.NetworkParts.{NetworkParts}
 use Rattle.plant_text.specs.Names.{parent_as}
 use Rattle.plant_text.specs.Settings.{adjacency, adjacencies, is_linked, is_element, peer_row}
 use Rattle.plant_laws.specs.plant_model.declared.event.Event.{Event}

@@ -1,6 +1,6 @@
 -- Few requests for each octet that is fed, over the wire of PCEP.
 use Rattle.std.proofs.Common.{◌≤◌, ℕ, List, arith}
-use Rattle.plant_text.specs.declared.settings.NetworkParts.{NetworkParts}
+use Rattle.plant_laws.specs.plant_model.Types.{NetworkParts}
 use Rattle.plant_laws.specs.plant_model.Wire.{Codec}
 use Rattle.plant_laws.specs.plant_model.RealWire.{wire}
 use Rattle.plant_laws.specs.plant_model.Plant.{Plant, Entry, deeds_of}

@@ -2,24 +2,14 @@
 use Rattle.std.proofs.Common.{◌≡◌, ◌∙◌, ℕ, Bool, true, false, cond, ◌==◌, List, [], ◌∷◌, Option, Some, None, is_some, refl, sym, ap, subst}
 use Rattle.std.specs.Prelude.{All}
 use Rattle.std.proofs.lemmas.List.Elements.{All-head, All-tail}
-use Rattle.dom_base.specs.declared.addr.Addr.{Addr}
-use Rattle.dom_base.specs.declared.names.As.{As}
-use Rattle.dom_base.specs.declared.names.Peer.{Peer}
+use Rattle.plant_laws.specs.plant_model.Types.{Addr, As, Peer, Answer, Message, Reply, Request, Wanted, Wish, NetworkParts, ElementRow}
 use Rattle.pcep_codes.specs.declared.errors.TheConstants as errors
 use Rattle.pcep_codes.specs.declared.no_paths.TheConstants as no_paths
 use Rattle.pcep_codes.specs.declared.notices.TheConstants as notices
-use Rattle.pcep_messages.specs.declared.message.Answer.{Answer}
 use Rattle.pcep_messages.specs.declared.message.Answer.TheVariants.{Paths, NoPath}
-use Rattle.pcep_messages.specs.declared.message.Message.{Message}
 use Rattle.pcep_messages.specs.declared.message.Message.TheVariants as messages
-use Rattle.pcep_messages.specs.declared.message.Reply.{Reply}
-use Rattle.pcep_messages.specs.declared.message.Request.{Request}
-use Rattle.pcep_messages.specs.declared.message.Wanted.{Wanted}
-use Rattle.pcep_messages.specs.declared.message.Wish.{Wish}
 use Rattle.pcep_messages.specs.declared.message.Wish.TheVariants.{Path, Expand}
 use Rattle.request_table.specs.Pending.{number_of, is_full}
-use Rattle.plant_text.specs.declared.settings.NetworkParts.{NetworkParts}
-use Rattle.plant_text.specs.declared.settings.ElementRow.{ElementRow}
 use Rattle.plant_text.specs.Names.{parent_as, insert_as}
 use Rattle.plant_text.specs.Settings.{children, children_of}
 use Rattle.plant_laws.specs.plant_model.Laws.{IsNetwork}

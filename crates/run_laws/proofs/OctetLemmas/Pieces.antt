@@ -3,7 +3,7 @@ use Rattle.std.proofs.Common.{◌≡◌, ◌≤◌, ◌+◌, ◌-◌, ◌*◌, �
 use Rattle.std.specs.Prelude.{count_by}
 use Rattle.std.proofs.lemmas.List.{length-map}
 use Rattle.dom_base.specs.Parts.{Reader, after_first, parts_from, with_front}
-use Rattle.pcep_messages.specs.declared.message.Bad.{Bad}
+use Rattle.plant_laws.specs.plant_model.Types.{Bad}
 use Rattle.pcep_messages.specs.Splitting.{octets_at, begins_rp, up_to_rp, groups_of, frame_with, chunks_of, split_objects, split_of}
 use Rattle.plant_laws.specs.plant_model.Wire.{Bytes}
 

@@ -1,16 +1,11 @@
 -- What is put into queues: how many requests it is, and how heavy the queues become.
 use Rattle.std.proofs.Common.{◌≡◌, ◌∙◌, ◌≤◌, ◌+◌, ℕ, Bool, true, false, cond, List, [], ◌∷◌, ◌++◌, Option, Some, None, length, refl, arith}
 use Rattle.std.proofs.Math.Nat.{le_refl}
-use Rattle.dom_base.specs.declared.names.As.{As}
-use Rattle.dom_base.specs.declared.names.Peer.{Peer}
-use Rattle.dom_base.specs.declared.names.Peer.TheVariants.{Outside, Inner}
+use Rattle.plant_laws.specs.plant_model.Types.{As, Peer, Outside, Inner, Asked, Message, NetworkParts}
 use Rattle.disclosure.specs.Shown.{open_of}
 use Rattle.pcep_subobjects.specs.Subobjects.{AreOctets}
-use Rattle.pcep_messages.specs.declared.message.Asked.{Asked}
-use Rattle.pcep_messages.specs.declared.message.Message.{Message}
 use Rattle.pcep_messages.specs.declared.message.Message.TheVariants as messages
 use Rattle.request_table.specs.Pending.{same_peer}
-use Rattle.plant_text.specs.declared.settings.NetworkParts.{NetworkParts}
 use Rattle.plant_text.specs.Names.{same_as}
 use Rattle.plant_laws.specs.plant_model.declared.output.Output.{Output}
 use Rattle.plant_laws.specs.plant_model.Names.{set_pair}

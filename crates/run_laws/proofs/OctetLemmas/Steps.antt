@@ -3,7 +3,7 @@ use Rattle.std.proofs.Common.{◌≡◌, ◌≢◌, ◌≤◌, ◌<◌, ◌+◌,
 use Rattle.std.specs.Prelude.{AllPairs, slice_index_or}
 use Rattle.std.specs.List.{AllByRecursion}
 use Rattle.std.proofs.lemmas.Bool.{cases_Bool}
-use Rattle.dom_base.specs.declared.names.As.{As}
+use Rattle.plant_laws.specs.plant_model.Types.{As}
 use Rattle.plant_text.specs.Names.{same_as, parent_as}
 use Rattle.plant_laws.specs.Transcript.{one_if}
 use Rattle.plant_laws.proofs.Runs.Queues.{same_as_is}

@@ -1,23 +1,11 @@
 -- What is done leaves framers as they are and sessions that are over over, and takes nothing but what is at hand.
 use Rattle.std.proofs.Common.{◌≡◌, ◌⊎◌, ℕ, ◌+◌, ◌%◌, Bool, true, false, cond, ◌==◌, List, [], ◌∷◌, Option, Some, None, inl, inr, sym, ◌∙◌, ap, subst, refl}
 use Rattle.std.proofs.lemmas.Bool.{eqb-true}
-use Rattle.dom_base.specs.declared.names.As.{As}
-use Rattle.dom_base.specs.declared.names.Tick.{Tick}
-use Rattle.dom_base.specs.declared.names.Peer.{Peer}
-use Rattle.dom_base.specs.declared.names.Peer.TheVariants.{Outside, Inner}
-use Rattle.pcep_subobjects.specs.declared.hop.Hop.{Hop}
-use Rattle.pcep_messages.specs.declared.message.Message.{Message}
-use Rattle.pcep_session.specs.declared.session.Input.{Input}
+use Rattle.plant_laws.specs.plant_model.Types.{As, Tick, Peer, Outside, Inner, Hop, Message, Input, Action, Own, Phase, State as Session, NetworkParts, PeerRow}
 use Rattle.pcep_session.specs.declared.session.Input.TheVariants as input
-use Rattle.pcep_session.specs.declared.actions.Action.{Action}
 use Rattle.pcep_session.specs.declared.actions.Action.TheVariants as action
-use Rattle.pcep_session.specs.declared.actions.Own.{Own}
-use Rattle.pcep_session.specs.declared.state.Phase.{Phase}
 use Rattle.pcep_session.specs.declared.state.Phase.TheVariants as phase
-use Rattle.pcep_session.specs.declared.state.State.{State as Session}
 use Rattle.pcep_session.specs.Table.{new_state, turn_in, turn_of}
-use Rattle.plant_text.specs.declared.settings.NetworkParts.{NetworkParts}
-use Rattle.plant_text.specs.declared.settings.PeerRow.{PeerRow}
 use Rattle.plant_text.specs.Names.{same_as, parent_as}
 use Rattle.plant_text.specs.Settings.{Adjacency, class_of}
 use Rattle.plant_laws.specs.plant_model.declared.output.Output.{Output}

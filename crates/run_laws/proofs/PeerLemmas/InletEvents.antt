@@ -3,19 +3,15 @@ use Rattle.std.proofs.Common.{◌≡◌, ◌⊎◌, ℕ, ◌+◌, ◌%◌, Bool,
 use Rattle.std.specs.Prelude.{Contains}
 use Rattle.std.proofs.lemmas.Bool.{cases_Bool, eqb-true}
 use Rattle.std.proofs.lemmas.List.Elements.{Contains-append_cases, Contains-append_left, Contains-append_right}
-use Rattle.dom_base.specs.declared.names.As.{As}
-use Rattle.dom_base.specs.declared.names.Tick.{Tick}
-use Rattle.dom_base.specs.declared.names.Peer.TheVariants.{Outside}
+use Rattle.plant_laws.specs.plant_model.Types.{As, Tick, Message, NetworkParts, Outside}
 use Rattle.disclosure.specs.Shown.{open_of}
 use Rattle.te_links.specs.Rows.{Rows}
 use Rattle.border_costs.proofs.Members.{contains_head, contains_none, contains_tail}
 use Rattle.pcep_framing.specs.Feeding.{feed_of}
 use Rattle.pcep_framing.specs.Frames.{HasFed, joined}
 use Rattle.pcep_framing.proofs.FrameLemmas.{fed_nothing}
-use Rattle.pcep_messages.specs.declared.message.Message.{Message}
 use Rattle.pcep_session.specs.declared.session.Input.TheVariants as input
 use Rattle.pcep_session.specs.Table.{new_state}
-use Rattle.plant_text.specs.declared.settings.NetworkParts.{NetworkParts}
 use Rattle.plant_text.specs.Settings.{is_element, is_linked, adjacency, adjacencies, peer_row}
 use Rattle.plant_text.specs.Names.{parent_as}
 use Rattle.plant_laws.specs.plant_model.declared.event.Event.{Event}

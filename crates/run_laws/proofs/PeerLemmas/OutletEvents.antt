@@ -1,15 +1,12 @@
 -- What an event does to a connection is what the transcript shows.
 use Rattle.std.proofs.Common.{◌≡◌, ℕ, suc, ◌+◌, ◌%◌, Bool, true, false, cond, ◌==◌, List, [], ◌∷◌, ◌++◌, Option, Some, None, is_some, option_map, Ok, sym, ◌∙◌, ap, subst, inl, inr, refl}
 use Rattle.std.proofs.lemmas.Bool.{eqb-true, eq-eqb}
-use Rattle.dom_base.specs.declared.names.As.{As}
-use Rattle.dom_base.specs.declared.names.Peer.TheVariants.{Outside}
+use Rattle.plant_laws.specs.plant_model.Types.{As, Message, NetworkParts, Tick, Outside}
 use Rattle.disclosure.specs.Shown.{open_of}
 use Rattle.te_links.specs.Rows.{Rows}
-use Rattle.pcep_messages.specs.declared.message.Message.{Message}
 use Rattle.pcep_framing.specs.Frames.{joined}
 use Rattle.pcep_session.specs.declared.session.Input.TheVariants as input
 use Rattle.pcep_session.specs.Table.{new_state}
-use Rattle.plant_text.specs.declared.settings.NetworkParts.{NetworkParts}
 use Rattle.plant_text.specs.Settings.{is_element, is_linked, adjacency, adjacencies, peer_row}
 use Rattle.plant_text.specs.Names.{parent_as}
 use Rattle.plant_laws.specs.plant_model.declared.event.Event.{Event}
@@ -19,7 +16,6 @@ use Rattle.plant_laws.specs.plant_model.declared.outcome.Outcome.TheVariants.{Do
 use Rattle.plant_laws.specs.plant_model.declared.outcome.Refused.{Refused}
 use Rattle.plant_laws.specs.plant_model.declared.outcome.Refused.TheVariants.{GenerationsFull, NoMemory, NoSuchJob, NoSuchPeer, NotHolder, NothingToCarry}
 use Rattle.plant_laws.specs.plant_model.Names.{set_pair}
-use Rattle.dom_base.specs.declared.names.Tick.{Tick}
 use Rattle.plant_laws.specs.plant_model.Settings.{place}
 use Rattle.plant_laws.specs.plant_model.Wire.{Bytes, Codec}
 use Rattle.plant_laws.specs.plant_model.Blind.{is_accepted}

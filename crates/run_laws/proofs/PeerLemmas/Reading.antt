@@ -3,7 +3,7 @@ use Rattle.std.proofs.Common.{List, [], ◌∷◌}
 use Rattle.std.specs.List.{AllByRecursion}
 use Rattle.std.specs.Prelude.{Contains}
 use Rattle.border_costs.proofs.Members.{contains_head, contains_tail}
-use Rattle.pcep_messages.specs.declared.message.Message.{Message}
+use Rattle.plant_laws.specs.plant_model.Types.{Message}
 use Rattle.pcep_messages.specs.Spelling.{IsWritten}
 use Rattle.plant_laws.specs.plant_model.Plant.{deeds_of}
 use Rattle.plant_laws.specs.plant_model.RealWire.{wire}

@@ -6,7 +6,7 @@ use Rattle.std.specs.List.{AllByRecursion}
 use Rattle.std.proofs.lemmas.List.{append-nil, length-append}
 use Rattle.std.proofs.lemmas.List.Concat.{flat_map-cons}
 use Rattle.dom_base.proofs.NumberLaws.{half_back}
-use Rattle.pcep_objects.specs.declared.object.Object.{Object}
+use Rattle.plant_laws.specs.plant_model.Types.{Object, Message}
 use Rattle.pcep_objects.specs.declared.object.ObjectFault.{ObjectFault}
 use Rattle.pcep_objects.specs.declared.object.ObjectFault.TheVariants as faults
 use Rattle.pcep_objects.specs.Bodies.{body_of}
@@ -14,7 +14,6 @@ use Rattle.pcep_objects.specs.Objects.{object_in, with_body}
 use Rattle.pcep_objects.specs.Spelling.{body_text, flag, object_text}
 use Rattle.pcep_objects.specs.Spelling as objects
 use Rattle.pcep_objects.proofs.ObjectLaws as object_laws
-use Rattle.pcep_messages.specs.declared.message.Message.{Message}
 use Rattle.pcep_messages.specs.Messages.{Reads}
 use Rattle.pcep_messages.specs.Spelling.{IsWritten, content_text, message_text, objects_in, objects_text}
 use Rattle.pcep_messages.proofs.MessageLaws as message_laws

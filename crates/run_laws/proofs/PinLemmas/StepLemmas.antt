@@ -2,17 +2,12 @@
 use Rattle.std.proofs.Common.{◌≡◌, ℕ, suc, Bool, true, false, cond, List, [], ◌∷◌, sym, ◌∙◌, subst, refl, inl, inr, Option, Some, None, nat_eq, Err}
 use Rattle.std.specs.Prelude.{Contains}
 use Rattle.std.specs.Map.{lookup}
-use Rattle.request_table.specs.declared.held.Held.{Held}
-use Rattle.dom_base.specs.declared.names.As.{As}
-use Rattle.dom_base.specs.declared.names.Peer.{Peer}
-use Rattle.dom_base.specs.declared.names.Peer.TheVariants.{Outside, Inner}
+use Rattle.plant_laws.specs.plant_model.Types.{Held, As, Peer, Outside, Inner, Message, NetworkParts}
 use Rattle.te_links.specs.Rows.{Rows}
 use Rattle.disclosure.specs.Shown.{open_of}
 use Rattle.border_costs.proofs.Members.{contains_none, contains_head, contains_tail, contains_cases}
-use Rattle.pcep_messages.specs.declared.message.Message.{Message}
 use Rattle.plant_text.specs.Names.{same_as, parent_as}
 use Rattle.plant_text.specs.Settings.{class_of, is_element}
-use Rattle.plant_text.specs.declared.settings.NetworkParts.{NetworkParts}
 use Rattle.plant_laws.specs.plant_model.declared.event.Event.{Event}
 use Rattle.plant_laws.specs.plant_model.declared.event.Event.TheVariants as event
 use Rattle.plant_laws.specs.plant_model.declared.outcome.Refused.{Refused}

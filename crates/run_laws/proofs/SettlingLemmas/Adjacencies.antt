@@ -3,9 +3,7 @@ use Rattle.std.proofs.Common.{◌≡◌, ◌≢◌, ◌⊎◌, ◌∙◌, ◌<�
 use Rattle.std.specs.Prelude.{slice_index_or}
 use Rattle.std.proofs.lemmas.Bool.{cases_Bool, cases_lt, lt-ltb, le-ltb, eqb-false, ne_eqb}
 use Rattle.std.proofs.lemmas.List.Elements.{All-head, All-tail}
-use Rattle.dom_base.specs.declared.names.As.{As}
-use Rattle.plant_text.specs.declared.settings.NetworkParts.{NetworkParts}
-use Rattle.plant_text.specs.declared.settings.ElementRow.{ElementRow}
+use Rattle.plant_laws.specs.plant_model.Types.{As, NetworkParts, ElementRow}
 use Rattle.plant_text.specs.Names.{same_as, same_link, parent_as, insert_as}
 use Rattle.plant_text.specs.Settings.{Adjacency, adjacency, adjacencies, before_adjacency, insert_adjacency, sorted, upward, has_adjacency, children, children_of, elements_of, is_element, row_of}
 use Rattle.plant_laws.specs.plant_model.Laws.{IsNetwork, IsElement}

@@ -1,18 +1,10 @@
 -- What messages weigh at most, and so all that stands in the queues of a run.
 use Rattle.std.proofs.Common.{◌≡◌, ◌⊎◌, ◌<◌, ◌≤◌, ◌+◌, ◌-◌, ◌*◌, ◌^◌, ℕ, suc, Bool, true, false, cond, nat_lt, List, [], ◌∷◌, Option, Some, length, inl, inr, refl, sym, ap, subst, arith}
 use Rattle.std.proofs.lemmas.Nat.{mul-le}
-use Rattle.dom_base.specs.declared.names.As.{As}
-use Rattle.dom_base.specs.declared.addr.Addr.{Addr}
-use Rattle.dom_base.specs.declared.border.ParentLink.{ParentLink}
-use Rattle.pcep_messages.specs.declared.message.Asked.{Asked}
-use Rattle.pcep_messages.specs.declared.message.Message.{Message}
+use Rattle.plant_laws.specs.plant_model.Types.{As, Addr, ParentLink, Asked, Message, Request, Wish, NetworkParts, ElementRow}
 use Rattle.pcep_messages.specs.declared.message.Message.TheVariants as messages
-use Rattle.pcep_messages.specs.declared.message.Request.{Request}
-use Rattle.pcep_messages.specs.declared.message.Wish.{Wish}
 use Rattle.pcep_messages.specs.declared.message.Wish.TheVariants.{Path, Expand}
 use Rattle.pcep_messages.specs.Spelling.{IsWritten}
-use Rattle.plant_text.specs.declared.settings.NetworkParts.{NetworkParts}
-use Rattle.plant_text.specs.declared.settings.ElementRow.{ElementRow}
 use Rattle.dom_base.specs.AddrOrder.{rank}
 use Rattle.plant_text.specs.Names.{same_as, parent_as, insert_as}
 use Rattle.plant_laws.specs.plant_model.Names.{same_addr}

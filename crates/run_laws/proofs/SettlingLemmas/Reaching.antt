@@ -2,10 +2,7 @@
 use Rattle.std.proofs.Common.{◌≡◌, ◌∙◌, ℕ, Bool, true, false, cond, Option, Some, List, [], ◌∷◌, ◌++◌, nat_eq, refl, sym, ap, subst}
 use Rattle.std.specs.Prelude.{filter}
 use Rattle.std.specs.Map.{remove_entry}
-use Rattle.dom_base.specs.declared.names.As.{As}
-use Rattle.dom_base.specs.declared.names.Peer.{Peer}
-use Rattle.dom_base.specs.declared.names.Peer.TheVariants.{Outside, Inner}
-use Rattle.request_table.specs.declared.held.Held.{Held}
+use Rattle.plant_laws.specs.plant_model.Types.{As, Peer, Outside, Inner, Held}
 use Rattle.request_table.specs.Pending.{same_peer}
 use Rattle.request_table.specs.Lends.{with_item}
 use Rattle.plant_laws.specs.plant_model.declared.output.Output.{Output}

@@ -1,9 +1,7 @@
 -- The ends of links are the parent and the elements, each once.
 use Rattle.std.proofs.Common.{◌≡◌, ◌∙◌, Bool, true, false, cond, nat_lt, List, [], ◌∷◌, ◌++◌, All, refl, ap, subst, arith}
 use Rattle.std.proofs.lemmas.List.Elements.{All-head, All-tail}
-use Rattle.dom_base.specs.declared.names.As.{As}
-use Rattle.plant_text.specs.declared.settings.NetworkParts.{NetworkParts}
-use Rattle.plant_text.specs.declared.settings.ElementRow.{ElementRow}
+use Rattle.plant_laws.specs.plant_model.Types.{As, NetworkParts, ElementRow}
 use Rattle.plant_text.specs.Names.{same_as, parent_as, insert_as}
 use Rattle.plant_text.specs.Settings.{Adjacency, adjacencies, before_adjacency, insert_adjacency, sorted, upward, has_adjacency, is_linked, children, children_of, elements_of, is_element}
 use Rattle.plant_laws.specs.plant_model.Laws.{IsNetwork}

@@ -2,12 +2,9 @@
 use Rattle.std.proofs.Common.{◌≡◌, ◌∙◌, ◌<◌, ◌≤◌, ◌+◌, ◌*◌, ℕ, suc, Bool, true, false, cond, nat_eq, nat_lt, is_some, Some, None, List, [], ◌∷◌, ◌++◌, length, inl, inr, refl, sym, ap, subst, arith, length-append}
 use Rattle.std.specs.Map.{lookup, remove_entry}
 use Rattle.std.proofs.lemmas.Bool.{cases_Bool, eq-eqb, ne_eqb}
-use Rattle.dom_base.specs.declared.names.As.{As}
-use Rattle.dom_base.specs.declared.names.Peer.{Peer}
-use Rattle.request_table.specs.declared.held.Held.{Held}
+use Rattle.plant_laws.specs.plant_model.Types.{As, Peer, Held, ElementRow}
 use Rattle.request_table.specs.Pending.{Pending, key_of, opened_of}
 use Rattle.request_table.specs.Lends.{with_item}
-use Rattle.plant_text.specs.declared.settings.ElementRow.{ElementRow}
 use Rattle.plant_text.specs.Names.{same_as, insert_as}
 use Rattle.plant_text.specs.Settings.{elements_of, row_of}
 use Rattle.plant_laws.proofs.Runs.Queues.{same_as_is}

@@ -1,15 +1,11 @@
 -- A session that stays is open after a turn where it came up in it, and else where it was open before.
 use Rattle.std.proofs.Common.{◌≡◌, ◌==◌, ◌&&◌, not, Bool, true, false, cond, Option, Some, None, List, [], ◌∷◌, refl, sym, ◌∙◌, ap}
-use Rattle.pcep_messages.specs.declared.message.Message.{Message}
+use Rattle.plant_laws.specs.plant_model.Types.{Message, Action, Input, Phase, State as Session}
 use Rattle.pcep_messages.specs.declared.message.Message.TheVariants as messages
 use Rattle.pcep_session.specs.Reports.{first_error_of, first_opening_of}
-use Rattle.pcep_session.specs.declared.actions.Action.{Action}
 use Rattle.pcep_session.specs.declared.actions.Action.TheVariants as action
-use Rattle.pcep_session.specs.declared.session.Input.{Input}
 use Rattle.pcep_session.specs.declared.session.Input.TheVariants as input
-use Rattle.pcep_session.specs.declared.state.Phase.{Phase}
 use Rattle.pcep_session.specs.declared.state.Phase.TheVariants as phase
-use Rattle.pcep_session.specs.declared.state.State.{State as Session}
 use Rattle.pcep_session.specs.Table.{SessionStep, turn_of, turn_in, open_wait, keep_wait, refused, refused_terms, in_up, up_tick, unknown_type, waits, heard, at_tick, has_passed, is_recent}
 use Rattle.plant_laws.specs.plant_model.Deeds.{any_fall}
 

@@ -1,25 +1,13 @@
 -- Taking a message and answering a job leave which neighbours an element, or the parent, may send requests.
 use Rattle.std.proofs.Common.{◌≡◌, ◌==◌, ℕ, Bool, true, false, cond, nat_lt, length, Option, Some, None, is_some, List, [], ◌∷◌, refl, ◌∙◌}
-use Rattle.dom_base.specs.declared.names.As.{As}
-use Rattle.dom_base.specs.declared.names.Peer.{Peer}
-use Rattle.dom_base.specs.declared.names.Peer.TheVariants.{Inner}
+use Rattle.plant_laws.specs.plant_model.Types.{As, Peer, Inner, Hop, Message, Answer, Reply, Request, Wanted, Wish, Class, Best, Branch}
 use Rattle.pcep_codes.specs.declared.no_paths.TheConstants as no_paths
 use Rattle.pcep_codes.specs.declared.notices.TheConstants as notices
-use Rattle.pcep_subobjects.specs.declared.hop.Hop.{Hop}
-use Rattle.pcep_messages.specs.declared.message.Message.{Message}
 use Rattle.pcep_messages.specs.declared.message.Message.TheVariants as messages
-use Rattle.pcep_messages.specs.declared.message.Answer.{Answer}
 use Rattle.pcep_messages.specs.declared.message.Answer.TheVariants.{Paths, NoPath}
-use Rattle.pcep_messages.specs.declared.message.Reply.{Reply}
-use Rattle.pcep_messages.specs.declared.message.Request.{Request}
-use Rattle.pcep_messages.specs.declared.message.Wanted.{Wanted}
-use Rattle.pcep_messages.specs.declared.message.Wish.{Wish}
 use Rattle.pcep_messages.specs.declared.message.Wish.TheVariants.{Path, Expand}
-use Rattle.disclosure.specs.declared.class.Class.{Class}
 use Rattle.disclosure.specs.Policy.{is_denied}
 use Rattle.request_table.specs.Pending.{same_peer, number_of, is_full}
-use Rattle.vspt_tree.specs.declared.branch.Best.{Best}
-use Rattle.vspt_tree.specs.declared.branch.Branch.{Branch}
 use Rattle.plant_text.specs.Names.{parent_as}
 use Rattle.plant_laws.specs.plant_model.Names.{the_parent, has_pair}
 use Rattle.plant_laws.specs.plant_model.Wire.{Codec, Checked, Admitted, Wrong}

@@ -2,7 +2,7 @@
 use Rattle.std.proofs.Common.{◌≡◌, inl, inr, ℕ, ◌<◌, ◌≤◌, ◌^◌, Bool, true, false, cond, leb, ◌==◌, List, [], ◌∷◌, length, Option, Some, None, refl, subst, arith}
 use Rattle.std.specs.List.{list_any, slice_split}
 use Rattle.std.proofs.lemmas.Bool.Decides.{leb_tells}
-use Rattle.dom_base.specs.declared.addr.Addr.{Addr}
+use Rattle.plant_laws.specs.plant_model.Types.{Addr}
 use Rattle.dom_base.specs.declared.addr.Addr.TheVariants.{V4, V6}
 use Rattle.dom_base.specs.AddrText.{addr_in, addr_of_groups, addr_of_octets, colon, dot, group_in, number_of_groups, octet_in}
 use Rattle.dom_base.specs.Numerals.{number_in}

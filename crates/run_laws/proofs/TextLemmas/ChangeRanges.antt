@@ -3,14 +3,11 @@ use Rattle.std.proofs.Common.{◌≡◌, ℕ, ◌++◌, Bool, true, false, cond,
 use Rattle.std.specs.List.{AllByRecursion}
 use Rattle.std.specs.Str.{bytes_eq}
 use Rattle.std.proofs.lemmas.List.Elements.{recursion_from_All}
-use Rattle.dom_base.specs.declared.names.As.{As}
-use Rattle.dom_base.specs.declared.link.Link.{Link}
+use Rattle.plant_laws.specs.plant_model.Types.{As, Link, Entry, OutLink}
 use Rattle.dom_base.specs.Steps.{◌>>=◌}
 use Rattle.line_text.specs.Lines.{NumberedLine, told_lines}
 use Rattle.line_text.specs.Words.{words_of}
 use Rattle.pcep_subobjects.specs.Addresses.{IsAddr}
-use Rattle.te_links.specs.declared.rows.Entry.{Entry}
-use Rattle.te_links.specs.declared.rows.OutLink.{OutLink}
 use Rattle.te_links.specs.Rows.{Rows}
 use Rattle.te_text.specs.declared.error.TextError.{TextError}
 use Rattle.te_text.specs.declared.row.TextRow.{TextRow}

@@ -4,7 +4,7 @@ use Rattle.std.specs.List.{AllByRecursion, list_any}
 use Rattle.std.proofs.lemmas.List.Elements.{recursion_from_All}
 use Rattle.line_text.specs.Hexadecimal.{hex_bytes, hex_pair, is_blank, with_byte}
 use Rattle.plant_text.specs.declared.line.LineEvent.TheVariants.{Feed}
-use Rattle.plant_text.specs.declared.settings.NetworkParts.{NetworkParts}
+use Rattle.plant_laws.specs.plant_model.Types.{NetworkParts}
 use Rattle.plant_text.specs.Lines.{hex_in, line_in}
 use Rattle.run_laws.proofs.TextLemmas.FedWords.{AllMean, line_fed}
 use Rattle.run_laws.proofs.TextLemmas.Lengths.{words_within}

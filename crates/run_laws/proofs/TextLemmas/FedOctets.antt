@@ -4,8 +4,7 @@ use Rattle.std.specs.List.{AllByRecursion, list_any}
 use Rattle.std.proofs.lemmas.Bool.Decides.{nat_tests}
 use Rattle.std.proofs.lemmas.List.Elements.{All-from_recursion}
 use Rattle.line_text.specs.Hexadecimal.{hex_bytes, hex_digit, hex_pair, is_blank, with_byte}
-use Rattle.plant_text.specs.declared.line.LineEvent.{LineEvent}
-use Rattle.plant_text.specs.declared.settings.NetworkParts.{NetworkParts}
+use Rattle.plant_laws.specs.plant_model.Types.{LineEvent, NetworkParts}
 use Rattle.plant_text.specs.Lines.{blind_line_in, hex_in, line_in}
 use Rattle.run_laws.specs.Ranges.{AreOctets}
 use Rattle.run_laws.proofs.TextLemmas.FedWords.{AllMean, Feeds, blind_line_fed, line_fed}

@@ -2,14 +2,11 @@
 use Rattle.std.proofs.Common.{◌≡◌, ℕ, Bool, true, false, cond, List, [], ◌∷◌, Option, Some, None, subst}
 use Rattle.std.specs.List.{AllByRecursion, find}
 use Rattle.std.specs.Str.{bytes_eq}
-use Rattle.dom_base.specs.declared.names.As.{As}
+use Rattle.plant_laws.specs.plant_model.Types.{As, LineEvent, NetworkParts, PeerRow}
 use Rattle.dom_base.specs.Steps.{◌>>=◌}
 use Rattle.line_text.specs.Lines.{is_skipped}
 use Rattle.line_text.specs.Words.{words_of}
-use Rattle.plant_text.specs.declared.line.LineEvent.{LineEvent}
 use Rattle.plant_text.specs.declared.line.LineEvent.TheVariants as event
-use Rattle.plant_text.specs.declared.settings.NetworkParts.{NetworkParts}
-use Rattle.plant_text.specs.declared.settings.PeerRow.{PeerRow}
 use Rattle.plant_text.specs.Lines.{are_rows_at, as_in, behind, behind_blind, blind_event_in, blind_line_in, both, event_in, file_in, first, hex_in, last, line_in, number_32, number_64, on_in, only, peer_in, rows_in, solved_in, verb_word, verbs}
 use Rattle.run_laws.proofs.TextLemmas.AddrRanges.{by_parts}
 

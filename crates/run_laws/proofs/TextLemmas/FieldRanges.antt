@@ -3,17 +3,13 @@ use Rattle.std.proofs.Common.{◌≡◌, ℕ, ◌-◌, ◌<◌, ◌≤◌, ◌^�
 use Rattle.std.specs.List.{AllByRecursion}
 use Rattle.std.proofs.lemmas.Bool.{leb-true}
 use Rattle.std.proofs.lemmas.List.Elements.{All-from_recursion}
-use Rattle.dom_base.specs.declared.addr.Addr.{Addr}
-use Rattle.dom_base.specs.declared.border.ParentLink.{ParentLink}
-use Rattle.dom_base.specs.declared.link.Link.{Link}
-use Rattle.dom_base.specs.declared.names.As.{As}
+use Rattle.plant_laws.specs.plant_model.Types.{Addr, ParentLink, Link, As, ElementRow}
 use Rattle.dom_base.specs.AddrText.{addr_in}
 use Rattle.pcep_subobjects.specs.Addresses.{IsAddr}
 use Rattle.toml.specs.Data.{Data, Items, no_items, item, Members, string, integer, float, boolean, datetime, array, table, as_bool, as_str, get_member}
 use Rattle.plant_text.specs.declared.fault.Breach.{Breach}
 use Rattle.plant_text.specs.declared.rows.Found.{Found}
 use Rattle.plant_text.specs.declared.forms.Ends.{Ends}
-use Rattle.plant_text.specs.declared.settings.ElementRow.{ElementRow}
 use Rattle.plant_text.specs.SettingsText.{Form, addr_of, as_of, colour_of, element_form, element_of, ends_in, file_of, has_only, link_in, needed, number, numbers_of, optional, parent_link_form, parent_link_of, parent_links_of, row_in, rows_in, rows_of, sheet_in, with_row, wrong_in}
 use Rattle.plant_laws.specs.plant_model.Plant.{IsLinkInRange}
 use Rattle.run_laws.proofs.TextLemmas.AddrRanges.{addr_in_range, by_parts, under_test}

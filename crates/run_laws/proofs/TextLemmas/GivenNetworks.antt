@@ -1,7 +1,6 @@
 -- Settings that a text gives obey the rules of a network.
 use Rattle.std.proofs.Common.{◌≡◌, ℕ, true, length, List, None, sym, subst, arith}
-use Rattle.dom_base.specs.declared.names.As.{As}
-use Rattle.plant_text.specs.declared.settings.NetworkParts.{NetworkParts}
+use Rattle.plant_laws.specs.plant_model.Types.{As, NetworkParts}
 use Rattle.plant_text.specs.Faults.{first_of}
 use Rattle.plant_text.specs.Networks.{ObeysRules, with_path}
 use Rattle.plant_text.specs.Reads.{Reads}

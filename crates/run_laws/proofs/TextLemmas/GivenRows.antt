@@ -5,9 +5,7 @@ use Rattle.std.specs.List.{AllByRecursion}
 use Rattle.std.proofs.lemmas.Bool.{eqb-true, ltb-true}
 use Rattle.std.proofs.lemmas.List.Elements.{All-nil, All-cons, All-weaker, All-from_recursion, Contains-append_right}
 use Rattle.std.proofs.lemmas.List.Kept.{AllPairs-cons}
-use Rattle.dom_base.specs.declared.names.As.{As}
-use Rattle.dom_base.specs.declared.addr.Addr.{Addr}
-use Rattle.dom_base.specs.declared.border.BorderRow.{BorderRow}
+use Rattle.plant_laws.specs.plant_model.Types.{As, Addr, BorderRow, LineEvent, NetworkParts, PeerRow}
 use Rattle.dom_base.specs.declared.limits.TheConstants.{COST_MAX}
 use Rattle.dom_base.specs.AddrOrder.{rank}
 use Rattle.dom_base.specs.AddrText.{addr_in}
@@ -19,10 +17,7 @@ use Rattle.line_text.specs.Words.{words_of}
 use Rattle.te_links.proofs.Different.{few_covered}
 use Rattle.border_costs.specs.Tables.{IsRowBefore}
 use Rattle.plant_text.specs.declared.limits.TheConstants.{ROW_ENTRIES_MAX}
-use Rattle.plant_text.specs.declared.line.LineEvent.{LineEvent}
 use Rattle.plant_text.specs.declared.line.LineEvent.TheVariants as event
-use Rattle.plant_text.specs.declared.settings.NetworkParts.{NetworkParts}
-use Rattle.plant_text.specs.declared.settings.PeerRow.{PeerRow}
 use Rattle.plant_text.specs.Names.{same_as, parent_as}
 use Rattle.plant_text.specs.Lines.{are_rising_after, are_rows_at, as_in, behind, behind_blind, blind_event_in, blind_line_in, both, cost_in, first, hex_in, is_before, new_entries_after, number_32, number_64, only, peer_in, row_in, rows_in, solved_in, verb_word, verbs, with_row}
 use Rattle.plant_laws.specs.plant_model.Blind.{AreGivenRows}

@@ -5,17 +5,12 @@ use Rattle.std.proofs.lemmas.List.Elements.{All-nil, All-cons, All-push}
 use Rattle.std.proofs.lemmas.List.Kept.{AllPairs-cons}
 use Rattle.std.specs.List.{list_any}
 use Rattle.dom_base.specs.AddrOrder.{rank}
-use Rattle.dom_base.specs.declared.addr.Addr.{Addr}
+use Rattle.plant_laws.specs.plant_model.Types.{Addr, ParentLink, Link, As, NetworkParts, PeerRow}
 use Rattle.dom_base.specs.declared.addr.Addr.TheVariants.{V4, V6}
-use Rattle.dom_base.specs.declared.border.ParentLink.{ParentLink}
-use Rattle.dom_base.specs.declared.link.Link.{Link}
-use Rattle.dom_base.specs.declared.names.As.{As}
 use Rattle.pcep_subobjects.specs.Addresses.{bits_of}
 use Rattle.te_links.specs.Rows.{IsMetric}
 use Rattle.plant_text.specs.declared.fault.Breach.{Breach}
 use Rattle.plant_text.specs.declared.fault.Breach.TheVariants.{TooMany, Shape, Duplicate}
-use Rattle.plant_text.specs.declared.settings.NetworkParts.{NetworkParts}
-use Rattle.plant_text.specs.declared.settings.PeerRow.{PeerRow}
 use Rattle.plant_text.specs.Faults.{first_of}
 use Rattle.plant_text.specs.Laws.{AreSettings}
 use Rattle.plant_text.specs.Names.{parent_as, same_as, same_link}

@@ -4,8 +4,7 @@ use Rattle.std.specs.List.{AllByRecursion}
 use Rattle.std.specs.List.Sorted.{IsPermutation}
 use Rattle.std.proofs.lemmas.List.Elements.{All-append, All-from_recursion, All-map}
 use Rattle.std.proofs.lemmas.List.Sorted.{All-permutation}
-use Rattle.dom_base.specs.declared.addr.Addr.{Addr}
-use Rattle.dom_base.specs.declared.names.As.{As}
+use Rattle.plant_laws.specs.plant_model.Types.{Addr, As, Entry, OutLink}
 use Rattle.dom_base.specs.AddrText.{addr_in}
 use Rattle.dom_base.specs.Steps.{◌>>=◌}
 use Rattle.line_text.specs.Lines.{NumberedLine, told_lines}
@@ -13,8 +12,6 @@ use Rattle.line_text.specs.Words.{words_of}
 use Rattle.pcep_subobjects.specs.Addresses.{IsAddr}
 use Rattle.te_links.specs.declared.fault.RowKind.{RowKind}
 use Rattle.te_links.specs.declared.fault.RowKind.TheVariants as kinds
-use Rattle.te_links.specs.declared.rows.Entry.{Entry}
-use Rattle.te_links.specs.declared.rows.OutLink.{OutLink}
 use Rattle.te_links.specs.Faults.{rows_of_parts}
 use Rattle.te_links.specs.Rows.{Rows}
 use Rattle.te_text.specs.declared.error.TextError.{TextError}

@@ -5,7 +5,7 @@ use Rattle.std.specs.declared.option.Option.{Option}
 use Rattle.std.specs.Io.KnownBytes.{Appends}
 use Rattle.line_text.specs.Lines.{NumberedLine}
 use Rattle.line_text.proofs.Counts.{lines_at_most}
-use Rattle.plant_text.specs.declared.settings.NetworkParts.{NetworkParts}
+use Rattle.plant_network.specs.plant_model.Types.{NetworkParts}
 use Rattle.blind_play.specs.Playing.{played_network}
 use Rattle.transcript.specs.Stops.{numbered}
 use Rattle.transcript.proofs.ScriptParts.{Tells, script_tells}

@@ -1,5 +1,5 @@
 use Rattle.std.proofs.Common.{List, sym, subst}
-use Rattle.pcep_session.specs.declared.actions.Action.{Action}
+use Rattle.pce_common.specs.plant_model.Types.{Action}
 use Rattle.pcep_session.specs.Listed.{listed}
 use Rattle.network_links.specs.Carried.{flow_of}
 use Rattle.network_events.specs.Acting.{Fits}

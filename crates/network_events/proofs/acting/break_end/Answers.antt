@@ -1,5 +1,5 @@
 use Rattle.std.proofs.Common.{subst, sym}
-use Rattle.dom_base.specs.declared.names.Peer.{Peer}
+use Rattle.pce_common.specs.plant_model.Types.{Peer}
 use Rattle.network_links.specs.Carried.{flow_of}
 use Rattle.network_events.specs.Acting.{RoomToBreakAt}
 use Rattle.network_events.specs.Peers.{IsEnd, break_at}

@@ -1,6 +1,5 @@
 use Rattle.std.proofs.Common.{Option, List, sym, subst}
-use Rattle.pcep_session.specs.declared.actions.Action.{Action}
-use Rattle.pcep_session.specs.declared.state.State.{State as Session}
+use Rattle.pce_common.specs.plant_model.Types.{Action, State as Session}
 use Rattle.network_links.specs.Carried.{flow_of}
 use Rattle.network_events.specs.Acting.{FitsInput, FitsTurn}
 use Rattle.network_events.proofs.InputLaws.{may_set}

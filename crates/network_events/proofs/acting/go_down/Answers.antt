@@ -1,6 +1,5 @@
 use Rattle.std.proofs.Common.{[], subst, sym}
-use Rattle.dom_base.specs.declared.names.Peer.{Peer}
-use Rattle.dom_base.specs.declared.names.Peer.TheVariants.{Outside}
+use Rattle.pce_common.specs.plant_model.Types.{Peer, Outside}
 use Rattle.pce_common.specs.plant_model.RealWire.{wire}
 use Rattle.pce_common.specs.plant_model.Deeds as deeds
 use Rattle.pce_common.specs.plant_model.Deeds.{with_inbox}

@@ -1,5 +1,5 @@
 use Rattle.std.proofs.Common.{◌≡◌, true, arith, subst, sym}
-use Rattle.plant_text.specs.declared.settings.NetworkParts.{NetworkParts}
+use Rattle.pce_common.specs.plant_model.Types.{NetworkParts}
 use Rattle.pce_common.specs.Membership.{is_member}
 use Rattle.network_links.specs.Carried.{flow_of}
 use Rattle.network_events.proofs.BreakLaws.{break_room, break_can, begin_second, break_goes}

@@ -1,5 +1,5 @@
 use Rattle.std.proofs.Common.{◌≡◌, ◌≤◌, ◌<◌, ◌%◌, ◌∙◌, is_some, true, false, refl, subst, sym, ap, arith, length}
-use Rattle.dom_base.specs.declared.names.As.{As}
+use Rattle.pce_common.specs.plant_model.Types.{As}
 use Rattle.pce_common.specs.Membership.{is_member}
 use Rattle.pce_common.specs.plant_model.declared.outcome.Outcome.TheVariants.{Done}
 use Rattle.pce_common.specs.plant_model.declared.outcome.Refused.TheVariants.{NoSuchPeer}

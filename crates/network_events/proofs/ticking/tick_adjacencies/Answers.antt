@@ -1,7 +1,7 @@
 use Rattle.std.proofs.Common.{◌≡◌, ◌≤◌, ◌<◌, ◌*◌, ℕ, Some, List, take, true, ap, sym, subst, arith, add-one, length}
 use Rattle.std.specs.Prelude.{slice_get}
 use Rattle.std.proofs.lemmas.List.{take_all}
-use Rattle.plant_text.specs.declared.settings.NetworkParts.{NetworkParts}
+use Rattle.pce_common.specs.plant_model.Types.{NetworkParts}
 use Rattle.plant_text.specs.Settings.{Adjacency, has_adjacency, adjacencies}
 use Rattle.network_links.specs.Adjacencies.{adjacency_of}
 use Rattle.pce_common.specs.plant_model.RealWire.{wire}

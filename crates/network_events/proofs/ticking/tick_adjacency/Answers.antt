@@ -1,6 +1,5 @@
 use Rattle.std.proofs.Common.{◌≡◌, true, sym, subst, arith}
-use Rattle.dom_base.specs.declared.names.Peer.TheVariants.{Inner}
-use Rattle.plant_text.specs.declared.settings.NetworkParts.{NetworkParts}
+use Rattle.pce_common.specs.plant_model.Types.{NetworkParts, Inner}
 use Rattle.plant_text.specs.Settings.{Adjacency}
 use Rattle.network_links.specs.Adjacencies.{adjacency_of}
 use Rattle.pcep_session.specs.declared.session.Input.TheVariants as inputs

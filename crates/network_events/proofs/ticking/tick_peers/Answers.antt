@@ -1,8 +1,6 @@
 use Rattle.std.proofs.Common.{◌≡◌, ◌<◌, ◌*◌, ℕ, true, sym, subst, arith, add-one, length}
-use Rattle.dom_base.specs.declared.names.As.{As}
-use Rattle.dom_base.specs.declared.names.Peer.TheVariants.{Outside}
+use Rattle.pce_common.specs.plant_model.Types.{As, NetworkParts, Outside}
 use Rattle.pcep_session.specs.declared.session.Input.TheVariants as inputs
-use Rattle.plant_text.specs.declared.settings.NetworkParts.{NetworkParts}
 use Rattle.pce_common.specs.plant_model.Deeds.{element_of}
 use Rattle.network_links.specs.Carried.{flow_of}
 use Rattle.pce_common.specs.Membership.{is_member}

@@ -1,6 +1,6 @@
 use Rattle.std.proofs.Common.{◌∙◌, Option, length, refl, sym, ap}
 use Rattle.std.proofs.lemmas.Option.{slice_get_read, slice_get_past}
-use Rattle.plant_text.specs.declared.settings.PeerRow.{PeerRow}
+use Rattle.plant_model.specs.Types.{PeerRow}
 use Rattle.plant_text.specs.Settings.{class_from}
 use Rattle.network_links.proofs.PeerRowLemmas.{peer_row_is}
 use Rattle.network_links.proofs.rows.class_at.Goals as goal

@@ -1,5 +1,5 @@
 use Rattle.std.proofs.Common.{◌∙◌, List, ap}
-use Rattle.plant_text.specs.declared.settings.ElementRow.{ElementRow}
+use Rattle.pce_common.specs.plant_model.Types.{ElementRow}
 use Rattle.plant_text.specs.Settings.{row_of, deny_at}
 use Rattle.pce_common.specs.plant_model.Routes.{routes_from}
 use Rattle.network_links.specs.Adjacencies.{others}

@@ -1,5 +1,5 @@
 use Rattle.std.proofs.Common.{◌<◌, AllPairs, List, sym, subst}
-use Rattle.dom_base.specs.declared.names.As.{As}
+use Rattle.pce_common.specs.plant_model.Types.{As}
 use Rattle.plant_text.specs.Settings.{children_of}
 use Rattle.network_members.proofs.RisingDomains.{children_rise, rise_in_pairs}
 use Rattle.network_members.proofs.hierarchy.parent_of.Goals as goal

@@ -1,6 +1,6 @@
 use Rattle.std.proofs.Common.{◌∙◌, Option, length, refl, sym, ap}
 use Rattle.std.proofs.lemmas.Option.{slice_get_read, slice_get_past}
-use Rattle.plant_text.specs.declared.settings.PeerRow.{PeerRow}
+use Rattle.pce_common.specs.plant_model.Types.{PeerRow}
 use Rattle.pce_common.specs.plant_model.Deeds.{at_row}
 use Rattle.network_links.proofs.PeerRowLemmas.{peer_row_is}
 use Rattle.network_members.proofs.members.at_peer.Goals as goal

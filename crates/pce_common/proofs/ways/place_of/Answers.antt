@@ -1,5 +1,5 @@
 use Rattle.std.proofs.Common.{◌≡◌, ◌∙◌, ◌+◌, suc, true, false, sym, ap, subst, arith, get_or}
-use Rattle.dom_base.specs.declared.names.Peer.{Peer}
+use Rattle.plant_model.specs.Types.{Peer}
 use Rattle.request_table.specs.Pending.{same_peer}
 use Rattle.plant_model.specs.Element.{Way}
 use Rattle.pce_common.proofs.WayLemmas.{Skips, skips_here, skips_more, skips_all}

@@ -1,7 +1,7 @@
 use Rattle.std.proofs.Common.{List, [], arith, length, refl, sym, subst}
 use Rattle.std.proofs.lemmas.List.{take_all}
 use Rattle.std.proofs.lemmas.Option.{slice_get_read}
-use Rattle.vspt_tree.specs.declared.branch.Best.{Best}
+use Rattle.pce_common.specs.plant_model.Types.{Best}
 use Rattle.pce_common.specs.plant_model.Branches.{downs}
 use Rattle.pce_common.specs.plant_model.Jobs.{IsJoinOf}
 use Rattle.pce_element.proofs.JoinLemmas.{no_rows, row_joined}

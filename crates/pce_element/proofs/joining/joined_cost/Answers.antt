@@ -1,6 +1,6 @@
 use Rattle.std.proofs.Common.{refl, sym, subst}
 use Rattle.std.specs.Prelude.{MatchOption}
-use Rattle.border_costs.specs.declared.job.Target.{Target}
+use Rattle.pce_common.specs.plant_model.Types.{Target}
 use Rattle.pce_common.specs.plant_model.Branches.{downs}
 use Rattle.pce_element.specs.Joining.{JoinsNothing, JoinsOver}
 use Rattle.pce_element.proofs.JoinLemmas.{next_nowhere, next_within, node_within}

@@ -1,7 +1,7 @@
 use Rattle.std.proofs.Common.{List, [], ◌∷◌, ◌++◌, ◌∙◌, arith, ap, sym}
 use Rattle.std.proofs.lemmas.List.{nil_from_length}
 use Rattle.dom_base.proofs.Ranks.{Decides-rank}
-use Rattle.vspt_tree.specs.declared.branch.Best.{Best}
+use Rattle.pce_common.specs.plant_model.Types.{Best}
 use Rattle.pce_element.proofs.JoinLemmas.{behind_other, first_way, with_last}
 use Rattle.pce_element.proofs.joining.take_in.Goals as goal
 

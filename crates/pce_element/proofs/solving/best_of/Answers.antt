@@ -1,8 +1,6 @@
 use Rattle.std.proofs.Common.{◌≡◌, ◌∙◌, ℕ, List, true, false, sym, ap, subst}
 use Rattle.std.proofs.lemmas.Result.{IfOk-weaker}
-use Rattle.dom_base.specs.declared.names.As.{As}
-use Rattle.pcep_messages.specs.declared.message.Wanted.{Wanted}
-use Rattle.border_costs.specs.declared.job.Target.{Target}
+use Rattle.pce_common.specs.plant_model.Types.{As, Wanted, Target}
 use Rattle.pce_common.specs.plant_model.Branches.{downs}
 use Rattle.pce_common.specs.plant_model.Element.{is_client}
 use Rattle.pce_common.specs.plant_model.Jobs.{IsJoinOf, target_along}

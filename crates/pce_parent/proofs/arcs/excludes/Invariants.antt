@@ -1,5 +1,5 @@
 use Rattle.std.proofs.Common.{ℕ, ◌<◌, get_or}
-use Rattle.dom_base.specs.declared.query.Exclusion.{Exclusion}
+use Rattle.pce_common.specs.plant_model.Types.{Exclusion}
 use Rattle.pce_parent.specs.Arcs.{NamesDomain}
 use Rattle.pce_parent.proofs.arcs.excludes.Given as goal
 

@@ -1,6 +1,6 @@
 use Rattle.std.proofs.Common.{◌≡◌, List, Some, slice_get, length, refl, arith, subst}
 use Rattle.std.proofs.lemmas.Option.{slice_get_read}
-use Rattle.dom_base.specs.declared.border.ParentLink.{ParentLink}
+use Rattle.pce_common.specs.plant_model.Types.{ParentLink}
 use Rattle.pce_parent.proofs.Collecting.{link_pushed, link_skipped}
 use Rattle.pce_parent.proofs.arcs.link_arcs.Goals as goal
 use Rattle.pce_parent.proofs.arcs.link_arcs.Goals.{in-Some+in_ok-push, in_default}

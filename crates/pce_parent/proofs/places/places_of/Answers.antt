@@ -1,6 +1,6 @@
 use Rattle.std.proofs.Common.{◌∙◌, subst, All, arith}
 use Rattle.std.proofs.lemmas.List.{take_all}
-use Rattle.dom_base.specs.declared.border.ParentLink.{ParentLink}
+use Rattle.pce_common.specs.plant_model.Types.{ParentLink}
 use Rattle.pce_common.specs.plant_model.declared.upper.ChildRow.{ChildRow}
 use Rattle.pce_common.specs.plant_model.BorderGraph.{Enter}
 use Rattle.pce_parent.specs.Places.{HasLink, HasEnd, spot_of}

@@ -1,7 +1,6 @@
 use Rattle.std.proofs.Common.{◌≡◌, ◌+◌, ◌∷◌, ◌++◌, List, [], ℕ, Some, arith, sym, ◌∙◌, ap, subst}
 use Rattle.std.proofs.lemmas.List.Elements.{All-contains}
-use Rattle.dom_base.specs.declared.addr.Addr.{Addr}
-use Rattle.pcep_subobjects.specs.declared.hop.Hop.{Hop}
+use Rattle.pce_common.specs.plant_model.Types.{Addr, Hop}
 use Rattle.pcep_subobjects.specs.Hops.{strict_hop}
 use Rattle.pce_common.specs.plant_model.BorderGraph.{Vertex, Enter, Leave}
 use Rattle.pce_parent.specs.declared.arcs.Arc.{Arc}

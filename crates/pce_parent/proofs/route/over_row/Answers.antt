@@ -1,7 +1,7 @@
 use Rattle.std.proofs.Common.{◌≡◌, ◌++◌, List, length, ℕ, Some, slice_get, get_or, arith, sym, ◌∙◌, ap, subst}
 use Rattle.std.proofs.lemmas.List.Elements.{All-contains}
 use Rattle.std.proofs.lemmas.Option.{slice_get_within, get_or_from_slice_get}
-use Rattle.pcep_subobjects.specs.declared.hop.Hop.{Hop}
+use Rattle.pce_common.specs.plant_model.Types.{Hop}
 use Rattle.pce_common.specs.plant_model.declared.upper.ChildRow.{ChildRow}
 use Rattle.pce_common.specs.plant_model.BorderGraph.{Vertex, Enter, Leave}
 use Rattle.pce_parent.specs.declared.arcs.Arc.{Arc}

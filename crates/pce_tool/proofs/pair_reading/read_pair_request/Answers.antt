@@ -1,6 +1,5 @@
 use Rattle.std.proofs.Common.{◌≡◌, ℕ, List, None, Err, subst}
-use Rattle.pcep_messages.specs.declared.message.Asked.{Asked}
-use Rattle.pcep_messages.specs.declared.message.Message.{Message}
+use Rattle.client_laws.specs.plant_model.Types.{Asked, Message}
 use Rattle.diverse_pairs.specs.declared.asking.Pair.{Pair}
 use Rattle.diverse_pairs.specs.declared.asking.PairError.{PairError}
 use Rattle.diverse_pairs.specs.declared.asking.PairError.TheVariants.{NotBuilt}

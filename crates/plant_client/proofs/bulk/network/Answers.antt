@@ -1,5 +1,5 @@
 use Rattle.std.proofs.Common.{◌≡◌, ◌∙◌, false, true, Err, ap, subst}
-use Rattle.plant_text.specs.declared.settings.NetworkParts.{NetworkParts}
+use Rattle.plant_play.specs.plant_model.Types.{NetworkParts}
 use Rattle.plant_text.specs.Settings.{is_element}
 use Rattle.plant_client.specs.Bulk.{first_domain}
 use Rattle.plant_client.proofs.bulk.network.Goals as goal

@@ -1,6 +1,6 @@
 use Rattle.std.proofs.Common.{◌≡◌, ◌<◌, ◌++◌, ◌∙◌, ℕ, Err, List, length, ap, arith, subst}
 use Rattle.pcep_subobjects.specs.Subobjects.{AreOctets}
-use Rattle.pcep_messages.specs.declared.message.Message.{Message}
+use Rattle.plant_play.specs.plant_model.Types.{Message}
 use Rattle.pcep_messages.specs.Spelling.{message_text}
 use Rattle.plant_client.specs.Questions.{question_text}
 use Rattle.plant_client.proofs.QuestionLemmas.{question_short}

@@ -1,6 +1,6 @@
 use Rattle.std.proofs.Common.{ℕ, subst}
 use Rattle.std.specs.Prelude.{Contains}
-use Rattle.dom_base.specs.declared.addr.Addr.{Addr}
+use Rattle.plant_model.specs.Types.{Addr}
 use Rattle.border_costs.specs.Asks.{beyond}
 use Rattle.plant_model.proofs.law.joins_what_was_told.Goals as goal
 

@@ -1,6 +1,6 @@
 use Rattle.std.proofs.Common.{Ok, Err, Result, ap, subst}
 use Rattle.std.proofs.lemmas.Result.{err_from_is_err_and}
-use Rattle.dom_base.specs.declared.names.Tick.{Tick}
+use Rattle.network_events.specs.plant_model.Types.{Tick}
 use Rattle.network_members.specs.Answering.{Commits}
 use Rattle.network_members.specs.pce_element.pce_common.declared.refusal.Refusal.{Refusal}
 use Rattle.network_members.specs.Topologies.{MemberPlan}

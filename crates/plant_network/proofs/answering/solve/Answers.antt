@@ -1,5 +1,5 @@
 use Rattle.std.proofs.Common.{ℕ, Option, Some, refl, sym, subst}
-use Rattle.dom_base.specs.declared.names.As.{As}
+use Rattle.network_events.specs.plant_model.Types.{As}
 use Rattle.network_events.specs.plant_model.declared.event.Event.TheVariants.{Solve}
 use Rattle.network_events.specs.plant_model.declared.outcome.Refused.TheVariants.{NoMemory}
 use Rattle.network_events.specs.plant_model.Events.{Answered}

@@ -1,7 +1,6 @@
 use Rattle.std.proofs.Common.{Ok, Err, Result, List, ap, subst}
 use Rattle.std.proofs.lemmas.Result.{err_from_is_err_and}
-use Rattle.dom_base.specs.declared.names.Tick.{Tick}
-use Rattle.dom_base.specs.declared.border.BorderRow.{BorderRow}
+use Rattle.network_events.specs.plant_model.Types.{Tick, BorderRow}
 use Rattle.network_events.specs.plant_model.declared.event.BlindEvent.TheVariants.{Solve}
 use Rattle.network_events.specs.plant_model.declared.outcome.Outcome.TheVariants.{Done}
 use Rattle.network_events.specs.plant_model.declared.outcome.Refused.{Refused}

@@ -1,8 +1,7 @@
 use Rattle.std.proofs.Common.{◌∙◌, List, sym, ap, subst}
 use Rattle.plant_network.specs.plant_model.declared.event.Event.{Event}
 use Rattle.plant_network.specs.Topologies.{whole}
-use Rattle.plant_text.specs.declared.settings.NetworkParts.{NetworkParts}
-use Rattle.plant_text.specs.declared.settings.PeerRow.{PeerRow}
+use Rattle.plant_network.specs.plant_model.Types.{NetworkParts, PeerRow}
 use Rattle.plant_play.specs.Logs.{behind}
 use Rattle.plant_play.specs.Making.{IsToShow, Makes, event_of}
 use Rattle.plant_play.specs.Turns.{event_line}

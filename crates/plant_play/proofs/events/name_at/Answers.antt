@@ -1,6 +1,6 @@
 use Rattle.std.proofs.Common.{◌∙◌, Option, sym, ap}
 use Rattle.std.proofs.lemmas.Option.{slice_get_past}
-use Rattle.plant_text.specs.declared.settings.PeerRow.{PeerRow}
+use Rattle.plant_network.specs.plant_model.Types.{PeerRow}
 use Rattle.transcript.proofs.network_links.PeerRowLemmas.{peer_row_is}
 use Rattle.transcript.specs.Lines.{name_from}
 use Rattle.plant_play.proofs.events.name_at.Goals as goal

@@ -1,5 +1,5 @@
 use Rattle.std.proofs.Common.{refl}
-use Rattle.dom_base.specs.declared.names.As.{As}
+use Rattle.plant_network.specs.plant_model.Types.{As}
 use Rattle.plant_network.specs.Topologies.{whole}
 use Rattle.plant_network.specs.network_links.Carried.{flow_of}
 use Rattle.plant_network.proofs.CarryLemmas.{least_here, settled_here}

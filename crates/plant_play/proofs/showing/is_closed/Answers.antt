@@ -1,7 +1,6 @@
 use Rattle.std.proofs.Common.{◌∙◌, Option, true, false, cond, sym, ap}
 use Rattle.std.proofs.lemmas.Option.{slice_get_past}
-use Rattle.dom_base.specs.declared.names.Peer.{Peer}
-use Rattle.plant_text.specs.declared.settings.PeerRow.{PeerRow}
+use Rattle.plant_network.specs.plant_model.Types.{Peer, PeerRow}
 use Rattle.plant_text.specs.Settings.{class_from}
 use Rattle.plant_network.specs.plant_model.Element.{is_client}
 use Rattle.transcript.proofs.network_links.PeerRowLemmas.{peer_row_is}

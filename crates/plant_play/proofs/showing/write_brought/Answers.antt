@@ -1,8 +1,5 @@
 use Rattle.std.proofs.Common.{◌∙◌, List, Option, sym, ap, subst}
-use Rattle.border_costs.specs.declared.job.Job.{Job}
-use Rattle.plant_queues.specs.declared.sent.Sent.{Sent}
-use Rattle.plant_text.specs.declared.settings.NetworkParts.{NetworkParts}
-use Rattle.plant_text.specs.declared.settings.PeerRow.{PeerRow}
+use Rattle.plant_network.specs.plant_model.Types.{Job, Sent, NetworkParts, PeerRow}
 use Rattle.plant_network.specs.Topologies.{whole}
 use Rattle.transcript.specs.Lines.{sents_text}
 use Rattle.plant_play.specs.Logs.{behind}

@@ -1,6 +1,6 @@
 use Rattle.std.proofs.Common.{◌∙◌, Option, sym, ap}
 use Rattle.std.proofs.lemmas.Option.{slice_get_past}
-use Rattle.plant_text.specs.declared.settings.PeerRow.{PeerRow}
+use Rattle.network_links.specs.plant_model.Types.{PeerRow}
 use Rattle.network_links.proofs.PeerRowLemmas.{peer_row_is}
 use Rattle.transcript.specs.Lines.{name_from}
 use Rattle.transcript.proofs.lines.name_at.Goals as goal

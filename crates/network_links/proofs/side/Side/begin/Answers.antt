@@ -1,5 +1,5 @@
 use Rattle.std.proofs.Common.{◌≡◌, ◌∙◌, ◌++◌, ◌∷◌, [], List, ℕ, ap}
-use Rattle.pcep_session.specs.declared.state.State.{State as Session}
+use Rattle.plant_model.specs.Types.{State as Session}
 use Rattle.pcep_session.specs.declared.actions.Own.TheVariants.{Open}
 use Rattle.plant_model.specs.Deeds.{our_offer}
 use Rattle.network_links.specs.Ends.{Roomy, Sender, begun, own_bytes}

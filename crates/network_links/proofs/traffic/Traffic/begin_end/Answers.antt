@@ -1,6 +1,5 @@
 use Rattle.std.proofs.Common.{◌≡◌, ◌∙◌, ◌++◌, ◌∷◌, [], List, ℕ, ap, subst}
-use Rattle.dom_base.specs.declared.names.Peer.TheVariants.{Inner}
-use Rattle.pcep_objects.specs.declared.offer.Offer.{Offer}
+use Rattle.plant_model.specs.Types.{Offer, Inner}
 use Rattle.pcep_session.specs.declared.actions.Own.TheVariants.{Open}
 use Rattle.plant_queues.specs.Sents.{sent_of}
 use Rattle.plant_model.specs.Deeds.{our_offer}

@@ -1,6 +1,5 @@
 use Rattle.std.proofs.Common.{sym, subst}
-use Rattle.dom_base.specs.declared.names.Peer.{Peer}
-use Rattle.dom_base.specs.declared.names.Peer.TheVariants.{Inner}
+use Rattle.plant_model.specs.Types.{Peer, Inner}
 use Rattle.network_links.specs.Carried.{Carried, seen, flow_of}
 use Rattle.network_links.specs.Flow.{GrowsAt}
 use Rattle.network_links.specs.Sides.{row_of}

@@ -1,5 +1,5 @@
 use Rattle.std.proofs.Common.{◌≡◌, ◌∙◌, ap, sym, subst}
-use Rattle.dom_base.specs.declared.names.Peer.{Peer}
+use Rattle.plant_model.specs.Types.{Peer}
 use Rattle.network_links.specs.Carried.{Carried, seen, flow_of}
 use Rattle.network_links.specs.Flow.{set_session, set_session_at}
 use Rattle.network_links.specs.Sides.{row_of}

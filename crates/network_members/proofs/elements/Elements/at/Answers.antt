@@ -1,5 +1,5 @@
 use Rattle.std.proofs.Common.{◌∙◌, List, Some, map, arith, sym, ap, subst}
-use Rattle.dom_base.specs.declared.names.As.{As}
+use Rattle.pce_common.specs.plant_model.Types.{As}
 use Rattle.pce_element.specs.Seen.{Seen}
 use Rattle.network_members.specs.Elements.{at_domain, own_of, IsFirstAt, IsNowhere}
 use Rattle.network_members.proofs.DomainLemmas.{first_within, at_first, at_nowhere}

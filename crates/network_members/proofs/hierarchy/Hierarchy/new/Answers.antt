@@ -1,5 +1,5 @@
 use Rattle.std.proofs.Common.{◌<◌, ◌^◌, All, length, sym, subst}
-use Rattle.plant_text.specs.declared.settings.NetworkParts.{NetworkParts}
+use Rattle.pce_common.specs.plant_model.Types.{NetworkParts}
 use Rattle.plant_text.specs.Settings.{elements_of}
 use Rattle.pce_common.specs.plant_model.Settings.{family}
 use Rattle.pce_parent.specs.Seen.{IsNew}

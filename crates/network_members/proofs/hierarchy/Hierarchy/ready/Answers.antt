@@ -1,6 +1,6 @@
 use Rattle.std.proofs.Common.{◌≡◌, ◌∙◌, ◌-◌, ℕ, List, sym, ap, subst}
 use Rattle.std.specs.Prelude.{slice_get}
-use Rattle.dom_base.specs.declared.names.As.{As}
+use Rattle.pce_common.specs.plant_model.Types.{As}
 use Rattle.plant_text.specs.Names.{parent_as}
 use Rattle.pce_common.specs.plant_model.Events.{ready_jobs}
 use Rattle.pce_common.specs.plant_model.Parent.{ready_numbers}

@@ -1,7 +1,6 @@
 use Rattle.std.proofs.Common.{◌≡◌, ◌∙◌, true, sym, ap, subst}
 use Rattle.std.specs.Prelude.{IfOk, IfSome}
-use Rattle.disclosure.specs.declared.class.Class.{Class}
-use Rattle.plant_text.specs.declared.settings.NetworkParts.{NetworkParts}
+use Rattle.pce_common.specs.plant_model.Types.{Class, NetworkParts}
 use Rattle.plant_text.specs.Settings.{class_of, is_element}
 use Rattle.network_members.specs.Becoming.{taken_by, unchanged}
 use Rattle.network_members.specs.Elements.{at_domain}

@@ -1,6 +1,6 @@
 use Rattle.std.proofs.Common.{◌≡◌, ◌∙◌, ap, subst}
 use Rattle.std.specs.Prelude.{IfOk}
-use Rattle.pcep_messages.specs.declared.message.Message.{Message}
+use Rattle.pce_common.specs.plant_model.Types.{Message}
 use Rattle.pce_common.specs.plant_model.RealWire.{wire}
 use Rattle.pce_common.specs.Membership.{heard}
 use Rattle.network_members.specs.Tiers.{Tiers, members_of}

@@ -3,7 +3,7 @@ use Rattle.std.specs.Prelude.{All, IfSome}
 use Rattle.std.specs.Map.{lookup}
 use Rattle.request_table.specs.Pending.{Pending}
 use Rattle.vspt_tree.specs.Branches.{HasBranchAt}
-use Rattle.vspt_tree.specs.declared.branch.Branch.{Branch}
+use Rattle.pce_common.specs.plant_model.Types.{Branch}
 use Rattle.pce_common.specs.plant_model.Element.{Item}
 use Rattle.pce_common.specs.plant_model.Plant.{Pin}
 use Rattle.pce_element.specs.Rows.{row_of}

@@ -1,5 +1,5 @@
 use Rattle.std.proofs.Common.{◌∙◌, not, List, ap}
-use Rattle.disclosure.specs.declared.class.Deny.{Deny}
+use Rattle.pce_common.specs.plant_model.Types.{Deny}
 use Rattle.disclosure.specs.Policy.{is_denied}
 use Rattle.pce_element.specs.Seen.{Seen}
 use Rattle.pce_element.proofs.element.Element.allows.Goals as goal

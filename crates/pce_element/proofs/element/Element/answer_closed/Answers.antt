@@ -1,6 +1,6 @@
 use Rattle.std.proofs.Common.{◌≡◌, ◌∙◌, ◌==◌, ◌≤◌, ℕ, false, length, rules, ap}
 use Rattle.pcep_messages.specs.declared.message.Answer.TheVariants.{Paths}
-use Rattle.pcep_messages.specs.declared.message.Wanted.{Wanted}
+use Rattle.pce_common.specs.plant_model.Types.{Wanted}
 use Rattle.pce_common.specs.plant_model.RealWire.{wire}
 use Rattle.pce_common.specs.plant_model.Solving.{closed_paths}
 use Rattle.pce_common.specs.plant_model.Writing.{reply_message}

@@ -1,6 +1,6 @@
 use Rattle.std.proofs.Common.{◌≡◌, ◌∙◌, ℕ, length, sym, ap}
 use Rattle.std.proofs.lemmas.Result.{IfOk-weaker}
-use Rattle.dom_base.specs.declared.addr.Addr.{Addr}
+use Rattle.pce_common.specs.plant_model.Types.{Addr}
 use Rattle.pce_element.specs.Answering.{closed_parts, paths_by}
 use Rattle.pce_element.proofs.CommitLemmas.{closed_are, length-parts}
 use Rattle.pce_element.proofs.element.Element.closed_paths.Goals as goal

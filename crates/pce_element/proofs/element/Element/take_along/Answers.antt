@@ -3,8 +3,7 @@ use Rattle.std.specs.Prelude.{IfOk, slice_get}
 use Rattle.std.proofs.lemmas.Bool.{ltb-true}
 use Rattle.std.proofs.lemmas.Option.{slice_get_read}
 use Rattle.std.proofs.Common.{drop, refl}
-use Rattle.dom_base.specs.declared.names.As.{As}
-use Rattle.dom_base.specs.declared.names.Peer.{Peer}
+use Rattle.pce_common.specs.plant_model.Types.{As, Peer}
 use Rattle.disclosure.specs.Policy.{is_denied}
 use Rattle.pce_common.specs.plant_model.Element.{Taken, way_to}
 use Rattle.pce_common.specs.plant_model.Taking.{send_on, sight, wanting}

@@ -1,6 +1,6 @@
 use Rattle.std.proofs.Common.{◌≡◌, ◌∙◌, ℕ, List, Option, Some, sym, ap}
 use Rattle.std.specs.Option.{option_to_list}
-use Rattle.pcep_messages.specs.declared.message.Message.{Message}
+use Rattle.pce_common.specs.plant_model.Types.{Message}
 use Rattle.request_table.specs.Pending.{Pending}
 use Rattle.pce_common.specs.plant_model.Element.{Item, waiting}
 use Rattle.pce_common.specs.plant_model.Taking.{error_answer}

@@ -3,7 +3,7 @@ use Rattle.std.specs.Prelude.{All, IfSome}
 use Rattle.std.specs.Map.{lookup}
 use Rattle.request_table.specs.Pending.{Pending}
 use Rattle.vspt_tree.specs.Branches.{HasBranchAt}
-use Rattle.vspt_tree.specs.declared.branch.Best.{Best}
+use Rattle.pce_common.specs.plant_model.Types.{Best}
 use Rattle.pce_common.specs.plant_model.Blind.{Nothing}
 use Rattle.pce_common.specs.plant_model.Element.{Item, Ready}
 use Rattle.pce_element.specs.Answering.{Answers}

@@ -1,6 +1,6 @@
 use Rattle.std.proofs.Common.{◌≡◌, ◌∙◌, ℕ, List, [], ◌∷◌, Option, Some, None, sym, ap, subst}
 use Rattle.std.specs.Option.{option_to_list}
-use Rattle.pcep_messages.specs.declared.message.Message.{Message}
+use Rattle.pce_common.specs.plant_model.Types.{Message}
 use Rattle.pce_common.specs.plant_model.Parent.{AskingRow, take_failure, waiting}
 use Rattle.pce_parent.specs.declared.sought.Sought.TheVariants.{Awaited}
 use Rattle.pce_parent.specs.Endings.{GoesOn}

@@ -1,5 +1,5 @@
 use Rattle.std.proofs.Common.{◌≡◌, ◌∙◌, true, false, refl, sym, ap, subst}
-use Rattle.pcep_messages.specs.declared.message.Wanted.{Wanted}
+use Rattle.pce_common.specs.plant_model.Types.{Wanted}
 use Rattle.pce_common.specs.plant_model.Branches.{branches_in}
 use Rattle.pce_common.specs.plant_model.RealWire.{wire}
 use Rattle.pce_common.specs.plant_model.Parent.{rows_at}

@@ -1,5 +1,5 @@
 use Rattle.std.proofs.Common.{◌≡◌, ◌∙◌, ℕ, List, Some, None, ap, subst}
-use Rattle.pcep_messages.specs.declared.message.Message.{Message}
+use Rattle.pce_common.specs.plant_model.Types.{Message}
 use Rattle.pce_common.specs.plant_model.Parent.{AskingRow, answered, take_busy}
 use Rattle.pce_parent.specs.declared.sought.Sought.TheVariants.{Awaited}
 use Rattle.pce_parent.specs.Endings.{GoesOn}

@@ -1,5 +1,5 @@
 use Rattle.std.proofs.Common.{◌≡◌, length, refl, ap, ◌∙◌}
-use Rattle.plant_text.specs.declared.settings.NetworkParts.{NetworkParts}
+use Rattle.client_laws.specs.plant_model.Types.{NetworkParts}
 use Rattle.pce_tool.specs.Worlds.{World, world}
 use Rattle.pce_tool.proofs.Ending.{keeps_refl}
 use Rattle.pce_tool.proofs.NetworkEnds.{path_stopped, path_told}

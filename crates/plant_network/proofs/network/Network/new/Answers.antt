@@ -1,7 +1,5 @@
 use Rattle.std.proofs.Common.{◌≡◌, List, refl, sym, ap, subst}
-use Rattle.dom_base.specs.declared.names.As.{As}
-use Rattle.pcep_subobjects.specs.declared.hop.Hop.{Hop}
-use Rattle.plant_text.specs.declared.settings.NetworkParts.{NetworkParts}
+use Rattle.network_events.specs.plant_model.Types.{As, Hop, NetworkParts}
 use Rattle.plant_text.specs.Networks.{ObeysRules}
 use Rattle.network_events.specs.plant_model.Events.{opening}
 use Rattle.network_events.specs.plant_model.RealWire.{wire}
