@@ -6,7 +6,8 @@ use Rattle.te_links.specs.declared.fault.TopoFault.{TopoFault}
 use Rattle.te_text.specs.Reads.{IsFaulty}
 use Rattle.network_files.specs.Topologies.{HasTopology, topology_max}
 use Rattle.te_text.specs.declared.error.TextError.TheVariants.{At}
-use Rattle.client_laws.specs.plant_model.Types.{Certificate, NetFault}
+use Rattle.client_laws.specs.plant_model.Types.{NetFault}
+use Rattle.path_certificate.specs.declared.certificate.Certificate.{Certificate}
 use Rattle.path_certificate.specs.Text.{certificate_in}
 use Rattle.diverse_pairs.specs.declared.certificate.PairCertificate.{PairCertificate}
 use Rattle.diverse_pairs.specs.Text.{pair_in}

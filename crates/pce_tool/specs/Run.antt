@@ -5,7 +5,7 @@ use Rattle.std.specs.Io.KnownBytes.{Appends}
 use Rattle.te_links.specs.Rows.{Rows}
 use Rattle.dom_edge.specs.Stores.{IfFile, IsLongFile}
 use Rattle.network_files.specs.Topologies.{HasTopology}
-use Rattle.client_laws.specs.plant_model.Types.{Certificate}
+use Rattle.path_certificate.specs.declared.certificate.Certificate.{Certificate}
 use Rattle.path_certificate.specs.declared.verdict.Place.{Place}
 use Rattle.path_certificate.specs.Claims.{HoldsAt, IsFirstFalse}
 use Rattle.one_domain.specs.declared.replying.PathRequest.{PathRequest}

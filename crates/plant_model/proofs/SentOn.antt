@@ -271,9 +271,6 @@ module _ (p : Object → Bool) where
   one_more : (o : Object) (os : List Object) → count_by p (o ∷ os) ≡ cond (p o) 1 0 + count_by p os
   one_more o os = sum_by-cons (λ o. cond (p o) 1 0) o os
 
-  alone_counts : (o : Object) → p o ≡ false → count_by p (o ∷ []) ≡ 0
-  alone_counts o e = one_more o [] ∙ ap (λ b. cond b 1 0 + 0) e
-
 -- an element serves END-POINTS of both kinds, and the parent, whose number is 0, those of IPv4
 abbrev Serves : ℕ → Addr → Addr → Type 0
 Serves own s t = ((own == 0) && (ends_kind s t == 2)) ≡ false

@@ -37,7 +37,6 @@ pub use Rattle.pcep_session.specs.declared.state.Phase.{Phase}
 pub use Rattle.pcep_session.specs.declared.state.State.{State}
 pub use Rattle.te_links.specs.declared.rows.Entry.{Entry}
 pub use Rattle.te_links.specs.declared.rows.OutLink.{OutLink}
-pub use Rattle.path_certificate.specs.declared.certificate.Certificate.{Certificate}
 pub use Rattle.vspt_tree.specs.declared.branch.Best.{Best}
 pub use Rattle.vspt_tree.specs.declared.branch.Branch.{Branch}
 pub use Rattle.border_costs.specs.declared.job.Ask.{Ask}

@@ -1,7 +1,8 @@
 -- An event that was done, and what is shown and told of it.
 use Rattle.std.proofs.Common.{◌≡◌, ℕ, Bool, true, false, not, cond, ◌&&◌, ◌||◌, List, [], ◌∷◌, ◌++◌, Option, Some, None, Ok, Err, inl, inr, sym, ◌∙◌, subst, ap, refl, OnOk}
 use Rattle.std.specs.Arc.{arc_value}
-use Rattle.plant_network.specs.plant_model.Types.{As, BorderRow, Certificate, Ask, Job, Sent, NetworkParts}
+use Rattle.plant_network.specs.plant_model.Types.{As, BorderRow, Ask, Job, Sent, NetworkParts}
+use Rattle.path_certificate.specs.declared.certificate.Certificate.{Certificate}
 use Rattle.te_links.specs.Rows.{Rows}
 use Rattle.plant_text.specs.Names.{same_as, parent_as}
 use Rattle.plant_network.specs.plant_model.declared.event.Event.{Event}

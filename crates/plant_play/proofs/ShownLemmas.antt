@@ -1,7 +1,8 @@
 -- What is told of an answer, put together.
 use Rattle.std.proofs.Common.{◌≡◌, ℕ, Bool, true, false, cond, ◌&&◌, List, [], ◌++◌, Option, Some, None, Result, Ok, Err, is_err, sym, ◌∙◌, subst, ap, refl, append-nil, IfOk, OnOk}
 use Rattle.std.specs.Arc.{arc_value}
-use Rattle.plant_network.specs.plant_model.Types.{BorderRow, Certificate, Job}
+use Rattle.plant_network.specs.plant_model.Types.{BorderRow, Job}
+use Rattle.path_certificate.specs.declared.certificate.Certificate.{Certificate}
 use Rattle.border_costs.specs.declared.answer.Answer.{Answer}
 use Rattle.border_costs.specs.Solutions.{AreRows}
 use Rattle.plant_network.specs.plant_model.Blind.{is_accepted}

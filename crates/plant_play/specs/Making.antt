@@ -1,7 +1,8 @@
 -- An event that is done, as the parts that tell it see it.
 use Rattle.std.specs.Prelude.{◌≡◌, ℕ, Bool, true, false, cond, ◌&&◌, ◌||◌, List, [], ◌∷◌, ◌++◌, length, Option, Some, None, Ok, Err, OnOk}
 use Rattle.std.specs.Arc.{arc_value}
-use Rattle.plant_network.specs.plant_model.Types.{As, Peer, Outside, Inner, BorderRow, Seed, Certificate, Job, Sent, PeerRow}
+use Rattle.plant_network.specs.plant_model.Types.{As, Peer, Outside, Inner, BorderRow, Seed, Job, Sent, PeerRow}
+use Rattle.path_certificate.specs.declared.certificate.Certificate.{Certificate}
 use Rattle.plant_network.specs.plant_model.Element.{is_client}
 use Rattle.border_costs.specs.Asks.{AreSeeds}
 use Rattle.border_costs.specs.Solutions.{IsLabelled}

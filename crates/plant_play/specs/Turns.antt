@@ -1,7 +1,8 @@
 -- An event of a line that is played: what the run has of it, what is shown of the job that it solved, and what is told.
 use Rattle.std.specs.Prelude.{◌≡◌, ℕ, Bool, false, not, cond, ◌&&◌, List, [], ◌∷◌, ◌++◌, Option, Some, None, Ok, Err}
 use Rattle.std.specs.List.{flat_map}
-use Rattle.plant_network.specs.plant_model.Types.{As, BorderRow, Seed, Certificate, Ask, Sent, NetworkParts, PeerRow}
+use Rattle.plant_network.specs.plant_model.Types.{As, BorderRow, Seed, Ask, Sent, NetworkParts, PeerRow}
+use Rattle.path_certificate.specs.declared.certificate.Certificate.{Certificate}
 use Rattle.te_links.specs.Rows.{Rows}
 use Rattle.border_costs.specs.Asks.{AreSeeds}
 use Rattle.border_costs.specs.Solutions.{IsLabelled}

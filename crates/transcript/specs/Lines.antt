@@ -1,7 +1,8 @@
 -- How the events of a run are told: lines, each of which begins with the number of the line of input that it comes from.
 use Rattle.std.specs.Prelude.{ℕ, Bool, true, false, List, [], ◌∷◌, ◌++◌, codes, decimal, Option, Some, None, Ok, Err}
 use Rattle.std.specs.List.{flat_map}
-use Rattle.network_links.specs.plant_model.Types.{As, Peer, Outside, Inner, Addr, BorderRow, Label, Certificate, Sent, PeerRow}
+use Rattle.network_links.specs.plant_model.Types.{As, Peer, Outside, Inner, Addr, BorderRow, Label, Sent, PeerRow}
+use Rattle.path_certificate.specs.declared.certificate.Certificate.{Certificate}
 use Rattle.dom_base.specs.AddrText.{addr_text}
 use Rattle.line_text.specs.Hexadecimal.{hex_text}
 use Rattle.plant_text.specs.Settings.{peer_row}

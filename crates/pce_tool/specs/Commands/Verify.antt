@@ -1,7 +1,7 @@
 -- `verify TOPO CERT`: whether a certificate of a request holds.
 use Rattle.std.specs.Prelude.{ℕ, List, [], ◌∷◌, ◌++◌, codes}
 use Rattle.te_links.specs.Rows.{Rows}
-use Rattle.client_laws.specs.plant_model.Types.{Certificate}
+use Rattle.path_certificate.specs.declared.certificate.Certificate.{Certificate}
 use Rattle.path_certificate.specs.Claims.{Claim, claim_of}
 use Rattle.one_domain.specs.declared.replying.PathRequest.{PathRequest}
 use Rattle.one_domain.specs.Domain.{target_seeds}

@@ -192,9 +192,6 @@ module _ {P : Type 0} {S : Type 0} where
   pub downed_lasts : (p : Peer) (k : Element P S) → Lasts k (downed p k).element
   downed_lasts p k = (filtered can_solve (stays p) k.pending, refl)
 
-  pub ticked_lasts : (now : ℕ) (k : Element P S) → Becomes can_solve k.pending (ticked now k).pending
-  ticked_lasts now k = still can_solve k.pending
-
   -- an answer issues keys at the moment
   pub record Answers (now : ℕ) (k t : Element P S) : Type 0 where
     pub lasts : Becomes can_solve k.pending t.pending

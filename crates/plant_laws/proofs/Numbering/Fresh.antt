@@ -143,9 +143,3 @@ among_ids p (w ∷ ws) y e = elim (cases_Bool (same_id w.peer w.id p y)) [ inl h
     same : (b : Bool) → cond b (w.id == y) false ≡ true → w.id ≡ y
     same true f = eqb-true w.id y f
     same false f = absurd (let out : false ≡ true = f in cc)
-
-pub next_is_free : (p : Peer) (taken : List Wait) (ways : List Way) → length taken < 4294967294 → parent.among p taken (parent.next_id p taken ways) ≡ false
-next_is_free p taken ways few =
-    let long = wait_length taken in
-    let last = parent.last_to (way_to p ways) in
-    pass_free taken (parent.among p taken) (wait_ids taken) (after_id last) (after_one last) few (omega (arith, long)) (λ k lt e. among_ids p taken (later k (after_id last)) e)

@@ -96,9 +96,6 @@ module _ (P : Type 0) (S : Type 0) where
   calm_silent : (k : Element P S) → IsCalm k (silent k)
   calm_silent k = record { none = tt; ways = refl }
 
-  calm_one : (k k' : Element P S) (p : Peer) (m : Message) → k'.ways ≡ k.ways → (IsAsk m → ⊥) → IsCalm k (record { element = k'; outputs = record { to = p; message = m } ∷ [] })
-  calm_one k k' p m same never = record { none = (never, tt); ways = same }
-
   calm_then : (k : Element P S) (t u : Taken P S) → IsCalm k t → IsCalm t.element u → IsCalm k (record { element = u.element; outputs = t.outputs ++ u.outputs })
   calm_then k t u x y = record { none = none_append t.outputs u.outputs x.none y.none; ways = y.ways ∙ x.ways }
 

@@ -164,9 +164,6 @@ module _ (c : Codec) (n : NetworkParts) where
           subst Have (sym told.1.sends_one) (of_parent k at (subst (λ (ds : Transcript). ParentTells c n before k ds) told.1.sends_one told.1), tt))
     ]
 
-    load_have : (k : Happened) → h ≡ k → Have k.deeds → Have h.deeds
-    load_have k is have = of_deeds k is have
-
     have : (es : List Entry) → Run c n es before → (e' : Event) → e ≡ e' → Have h.deeds
     have es run (event.Load d g) is =
         of_deeds _ (happens (event.Load d g) is)

@@ -126,12 +126,6 @@ module _ (c : Codec) (n : NetworkParts) where
     puts_safe at [] s safe = safe
     puts_safe at (o ∷ os) s safe = puts_safe at os (put Pin Segment c n open_of at o s) (put_safe at (c.text o.message) s o.to safe)
 
-    same_safe : (s t : Core) → t.sessions ≡ s.sessions → t.accesses ≡ s.accesses → Safe s → Safe t
-    same_safe s t sessions accesses safe = record {
-      live = subst (λ (f : As → As → Session). (a b : As) → is_linked n a b ≡ true → IsLive (f a b).phase × IsLive (f b a).phase) (sym sessions) safe.live;
-      inboxes = subst (λ (f : ℕ → Access). (i : ℕ) → Inbox (f i).connection) (sym accesses) safe.inboxes;
-    }
-
     safe_pick : (b : Bool) (g h : Move) → Safe g.state → Safe h.state → Safe (cond b g h).state
     safe_pick true g h x y = x
     safe_pick false g h x y = y

@@ -45,9 +45,6 @@ IsSound c e = (a b : As) (id : ℕ) (w : Wanted) (target : Addr) (l : List As) �
 abbrev pub AreSound : Codec → Transcript → Type 0
 AreSound c ds = AllSent IsWritten ds × AllSent CancelsNone ds × Each (IsSound c) ds
 
-pub sound_tail : (c : Codec) (e : Deed Segment) (ds : Transcript) → AreSound c (e ∷ ds) → AreSound c ds
-sound_tail c e ds h = (h.0.1, h.1.1, h.2.1)
-
 as_self : (d : As) → same_as d d ≡ true
 as_self d = eq-eqb d.0 d.0 refl
 

@@ -34,12 +34,6 @@ use Rattle.plant_laws.proofs.Settled.Alive.{Core, IsAlive}
 as_self : (d : As) → same_as d d ≡ true
 as_self d = eq-eqb d.0 d.0 refl
 
-as_back : (a b : As) → same_as a b ≡ false → same_as b a ≡ false
-as_back a b miss = elim (cases_Bool (same_as b a)) [
-  | inl hit ↦
-      let is : b ≡ a = same_as_is b a hit in
-      absurd (let clash : true ≡ false = sym (as_self a) ∙ ap (λ (z : As). same_as a z) (sym is) ∙ miss in cc)
-  | inr other ↦ other
 ]
 
 peers_apart : (a q : As) → (a ≡ q → ⊥) → same_peer (Inner a) (Inner q) ≡ false

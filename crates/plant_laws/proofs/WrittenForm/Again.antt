@@ -21,9 +21,6 @@ abbrev pub AreReadAgain : Codec → Transcript → Type 0
 AreReadAgain c [] = Unit {0}
 AreReadAgain c (e ∷ older) = ((a b : As) → EachRead c (put_into b (outputs_at a e))) × AreReadAgain c older
 
-none_put : (c : Codec) (b : As) → EachRead c (put_into b [])
-none_put c b = tt
-
 put_read : (c : Codec) → IsCodec c → (b : As) (os : List Output) → AreAll IsWritten os → EachRead c (put_into b os)
 put_read c codec b [] h = tt
 put_read c codec b (o ∷ os) h = go (same_peer o.to (Inner b)) (put_read c codec b os h.1)

@@ -161,12 +161,6 @@ module _ (P : Type 0) (S : Type 0) (c : Codec) (codec : IsCodec c) (n : NetworkP
   choose true g h x y = x
   choose false g h x y = y
 
-  same_fit : (s t : State P S) → t.sessions ≡ s.sessions → t.accesses ≡ s.accesses → SessionsFit s → SessionsFit t
-  same_fit s t e f h = record {
-    inner = subst (λ (g : As → As → Session). (a b : As) → OfferFits (g a b).offer) (sym e) h.inner;
-    outer = subst (λ (g : ℕ → Access). (i : ℕ) → ConnFits (g i).connection) (sym f) h.outer;
-  }
-
   access_fit : (i : ℕ) (f : Connection → Connection) (s : State P S) → ((x : Connection) → OfferFits x.session.offer → OfferFits (f x).session.offer) → SessionsFit s → SessionsFit (with_access P S c n show i f s)
   access_fit i f s keeps h = record { inner = h.inner; outer = λ j. go j (i == j) }
     where

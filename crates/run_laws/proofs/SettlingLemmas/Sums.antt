@@ -18,9 +18,6 @@ pub total_append : {X : Type 0} (f : X → ℕ) (xs ys : List X) → total f (xs
 total_append f [] ys = omega arith
 total_append f (x ∷ xs) ys = let more = total_append f xs ys in omega (arith, more)
 
-pub total_one : {X : Type 0} (f : X → ℕ) (x : X) → total f (x ∷ []) ≡ f x
-total_one f x = omega arith
-
 pub total_all : {X : Type 0} (w : ℕ) (xs : List X) → total (λ (x : X). w) xs ≡ w * length xs
 total_all w [] = omega arith
 total_all w (x ∷ xs) = let more = total_all w xs in omega (arith, more)
