@@ -1,10 +1,11 @@
 -- Nothing is said to a client that asks once behind the answer to its question, and that has lines.
 use Rattle.std.proofs.Common.{◌≡◌, ◌≢◌, ◌⊎◌, ◌≤◌, ◌<◌, ◌+◌, ℕ, Bool, true, false, cond, List, [], ◌∷◌, ◌++◌, length, Option, Some, None, option_map, Ok, Err, append_assoc, sym, ap, subst, ◌∙◌, inl, inr, refl, arith}
-use Rattle.std.specs.Prelude.{All, Contains}
+use Rattle.std.specs.Prelude.{Contains}
 use Rattle.std.specs.List.{AllByRecursion}
 use Rattle.std.proofs.lemmas.Bool.{cases_Bool}
 use Rattle.std.proofs.lemmas.List.{append-nil}
-use Rattle.plant_play.specs.plant_model.Types.{As, Peer, Outside, Answer, Message, Path, Reply, Request, NetworkParts, PeerRow}
+use Rattle.plant_play.specs.plant_model.Types.{As, Peer, Outside, Answer, Message, Path, Reply, Request, NetworkParts}
+use Rattle.plant_play.specs.plant_model.Routes.{StaysInside}
 use Rattle.dom_base.specs.Words.{is_malformed}
 use Rattle.border_costs.proofs.Members.{contains_head, contains_none, contains_tail}
 use Rattle.pcep_messages.specs.declared.message.Answer.TheVariants.{NoPath, Paths}
@@ -266,7 +267,7 @@ sent_behind : (xs ys : Transcript) → AllSent IsWritten (xs ++ ys) → AllSent 
 sent_behind [] ys all = all
 sent_behind (x ∷ xs) ys all = sent_behind xs ys all.1
 
-module _ (n : NetworkParts) (net : IsNetwork n) (i : ℕ) (q : Question) (downs : All (λ (r : PeerRow). r.down ≡ false) n.peers) where
+module _ (n : NetworkParts) (net : IsNetwork n) (i : ℕ) (q : Question) (downs : StaysInside n) where
   entry_causes : (e : Entry) (es : List Entry) (s : Plant) (run : Run wire n (e ∷ es) s) → is_accepted e.answer ≡ true → HaveCauses wire n run.0 e.event e.deeds
   entry_causes e es s run ok = go e.answer refl ok
     where

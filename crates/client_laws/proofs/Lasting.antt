@@ -1,10 +1,11 @@
 -- What others make an element say to a client that asks once is about its question.
 use Rattle.std.proofs.Common.{◌≡◌, ◌≢◌, ◌⊎◌, ◌≤◌, ◌+◌, nat_eq, ℕ, Bool, true, false, cond, List, [], ◌∷◌, ◌++◌, Some, None, sym, ap, subst, ◌∙◌, inl, inr, refl, arith}
-use Rattle.std.specs.Prelude.{All, Contains}
+use Rattle.std.specs.Prelude.{Contains}
 use Rattle.std.specs.Map.{lookup}
 use Rattle.std.proofs.lemmas.Bool.{cases_Bool, eq-eqb, eqb-true}
 use Rattle.std.proofs.lemmas.List.{append-nil}
-use Rattle.plant_play.specs.plant_model.Types.{As, Peer, Inner, Outside, Answer, Asked, Message, Reply, Request, Held, NetworkParts, PeerRow}
+use Rattle.plant_play.specs.plant_model.Types.{As, Peer, Inner, Outside, Answer, Asked, Message, Reply, Request, Held, NetworkParts}
+use Rattle.plant_play.specs.plant_model.Routes.{StaysInside}
 use Rattle.border_costs.proofs.Members.{contains_head, contains_tail}
 use Rattle.pcep_codes.specs.declared.no_paths.TheConstants as no_paths
 use Rattle.pcep_messages.specs.declared.message.Answer.TheVariants.{NoPath, Paths}
@@ -135,7 +136,7 @@ module _ (n : NetworkParts) (net : IsNetwork n) (i : ℕ) (q : Question) (es : L
 
 -- ---- the deeds of an event of others
 
-module _ (n : NetworkParts) (net : IsNetwork n) (i : ℕ) (q : Question) (downs : All (λ (r : PeerRow). r.down ≡ false) n.peers) (es : List Entry) (s : Plant) (run : Run wire n es s) (only : AsksOnly n es i q)
+module _ (n : NetworkParts) (net : IsNetwork n) (i : ℕ) (q : Question) (downs : StaysInside n) (es : List Entry) (s : Plant) (run : Run wire n es s) (only : AsksOnly n es i q)
     (written : AllSent IsWritten (deeds_of wire n es)) (before : Plant) (tables : (d : As) (h : Row Pin) → Contains (before.elements d).pending.rows h → (h.1.key.peer ≡ Outside i) → (h.1.key.id ≡ q.id) × (h.1.item.flags ≡ 0)) (e : Event) (others : IsOfOthers e) where
   abbrev Final : List Output → Type 0
   Final os = Each i (IsFinal q.id) os

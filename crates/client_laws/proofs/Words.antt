@@ -1,7 +1,7 @@
 -- What an element says to a client when others speak to it: a word that answers a request, or what the parent told of it.
 use Rattle.std.proofs.Common.{◌≡◌, ◌⊎◌, ℕ, Bool, true, false, List, [], ◌∷◌, ◌++◌, map, Some, sym, subst, ◌∙◌, inl, inr, refl}
-use Rattle.std.specs.Prelude.{All}
-use Rattle.plant_play.specs.plant_model.Types.{As, Peer, Inner, Outside, Answer, Asked, Message, ErrorReport, Notice, Reply, Wanted, NetworkParts, PeerRow}
+use Rattle.plant_play.specs.plant_model.Types.{As, Peer, Inner, Outside, Answer, Asked, Message, ErrorReport, Notice, Reply, Wanted, NetworkParts}
+use Rattle.plant_play.specs.plant_model.Routes.{StaysInside}
 use Rattle.pcep_codes.specs.declared.errors.TheConstants as errors
 use Rattle.pcep_messages.specs.declared.message.Answer.TheVariants.{NoPath}
 use Rattle.plant_play.specs.plant_model.declared.output.Output.{Output}
@@ -86,7 +86,7 @@ module _ (i : ℕ) where
 
   -- ---- a request of another
 
-  module _ (c : Codec) (n : NetworkParts) (downs : All (λ (r : PeerRow). r.down ≡ false) n.peers) (d : As) (p : Peer) where
+  module _ (c : Codec) (n : NetworkParts) (downs : StaysInside n) (d : As) (p : Peer) where
     goes_inside : (w : Wanted) (next : Peer) (rest : List As) (refused : Bool) → GoesTo n d p w next rest refused → next ≡ Outside i → ⊥
     goes_inside w next rest refused (causes.upward up is none' fine) to = (let clash : the_parent ≡ Outside i = sym is ∙ to in cc)
     goes_inside w next rest refused (causes.along own b more low is on behind fine) to = inner_is b i (sym (on ∙ unrouted n downs d b) ∙ to)

@@ -1,7 +1,8 @@
 -- What a client that asks once is told is the answer to its question: nothing is said to it behind that, and no answer is without lines.
-use Rattle.std.specs.Prelude.{◌≡◌, ◌≤◌, ℕ, false, All, List, [], ◌∷◌, ◌++◌, length, Option, Some}
+use Rattle.std.specs.Prelude.{◌≡◌, ◌≤◌, ℕ, List, [], ◌∷◌, ◌++◌, length, Option, Some}
 use Rattle.dom_edge.specs.Stores.{Files}
-use Rattle.plant_play.specs.plant_model.Types.{Answer, Message, NetworkParts, PeerRow}
+use Rattle.plant_play.specs.plant_model.Types.{Answer, Message, NetworkParts}
+use Rattle.plant_play.specs.plant_model.Routes.{StaysInside}
 use Rattle.pcep_messages.specs.Spelling.{IsWritten}
 use Rattle.plant_play.specs.plant_model.Laws.{IsNetwork}
 use Rattle.plant_play.specs.plant_model.Plant.{Entry}
@@ -36,5 +37,5 @@ pub record EndsAnswered (es : List Entry) (client : ℕ) (question : Question) (
 -- Where no id comes round, and paths go on through no outside peer.
 abbrev pub AnswerIsTold : Type 0
 AnswerIsTold =
-    (files : Option Files) (n : NetworkParts) (client : ℕ) (question : Question) (received : List ℕ) → IsNetwork n → IsClient n client → IsWritten (question_message question) → All (λ (r : PeerRow). r.down ≡ false) n.peers →
+    (files : Option Files) (n : NetworkParts) (client : ℕ) (question : Question) (received : List ℕ) → IsNetwork n → IsClient n client → IsWritten (question_message question) → StaysInside n →
     (a : Asks files n client question received) → HasIdsLeft n (entries_of a.lines.turns []) → EndsAnswered (entries_of a.lines.turns []) client question received

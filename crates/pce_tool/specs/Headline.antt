@@ -1,9 +1,10 @@
 -- What every run of a network is worth that a command plays.
-use Rattle.std.specs.Prelude.{◌≡◌, ◌≤◌, ℕ, false, true, All, List, [], ◌∷◌, ◌++◌, length, Option, Some}
+use Rattle.std.specs.Prelude.{◌≡◌, ◌≤◌, ℕ, true, List, [], ◌∷◌, ◌++◌, length, Option, Some}
 use Rattle.dom_edge.specs.Stores.{Files}
 use Rattle.line_text.specs.Lines.{NumberedLine, told_lines}
 use Rattle.plant_text.specs.declared.line.LineEvent.TheVariants.{DiscloseOn}
-use Rattle.client_laws.specs.plant_model.Types.{NetworkParts, PeerRow}
+use Rattle.client_laws.specs.plant_model.Types.{NetworkParts}
+use Rattle.client_laws.specs.plant_model.Routes.{StaysInside}
 use Rattle.plant_text.specs.Networks.{with_path}
 use Rattle.plant_text.specs.Settings.{is_element}
 use Rattle.client_laws.specs.plant_model.Blind.{blind_opened, heard}
@@ -60,7 +61,7 @@ pub record AnswerIsWorth (n : NetworkParts) (client : ℕ) (question : Question)
   pub worth : IsWorth n turns end
   pub told : HasIdsLeft n (entries_of turns []) → IsTold n (entries_of turns []) client received
   pub asked : AsksOnly n (entries_of turns []) client question
-  pub answered : HasIdsLeft n (entries_of turns []) → All (λ (r : PeerRow). r.down ≡ false) n.peers → EndsAnswered (entries_of turns []) client question received
+  pub answered : HasIdsLeft n (entries_of turns []) → StaysInside n → EndsAnswered (entries_of turns []) client question received
 
 -- What is played until the client of a route is answered, and what is told of that.
 abbrev pub PathsAreWorth : Option Files → List ℕ → Route → Type 0

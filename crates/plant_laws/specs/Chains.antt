@@ -1,6 +1,7 @@
 -- What is said of every run: a request has one chain, and in a quiet state the chain of a pending request ends at an outside peer.
-use Rattle.std.specs.Prelude.{◌≡◌, ◌≢◌, ℕ, Bool, false, cond, is_some, All, Contains, List, [], ◌∷◌, Option, Some, None}
-use Rattle.plant_model.specs.Types.{As, Peer, Outside, Inner, NetworkParts, PeerRow}
+use Rattle.std.specs.Prelude.{◌≡◌, ◌≢◌, ℕ, Bool, false, cond, is_some, Contains, List, [], ◌∷◌, Option, Some, None}
+use Rattle.plant_model.specs.Types.{As, Peer, Outside, Inner, NetworkParts}
+use Rattle.plant_model.specs.Routes.{StaysInside}
 use Rattle.request_table.specs.Pending.{key_of, number_of}
 use Rattle.plant_text.specs.Names.{same_as, parent_as}
 use Rattle.plant_model.specs.Wire.{Codec}
@@ -65,7 +66,7 @@ QuietIsAnswered = InShortRuns QuietIsAnsweredIn
 
 -- So where paths go on through no outside peer, nothing is pending.
 abbrev pub QuietHasNonePendingIn : Codec → NetworkParts → List Entry → Plant → Type 0
-QuietHasNonePendingIn c n es s = All (λ (r : PeerRow). r.down ≡ false) n.peers → IsQuiet s → (s.parent.pending.rows ≡ []) × ((d : As) → (s.elements d).pending.rows ≡ [])
+QuietHasNonePendingIn c n es s = StaysInside n → IsQuiet s → (s.parent.pending.rows ≡ []) × ((d : As) → (s.elements d).pending.rows ≡ [])
 
 abbrev pub QuietHasNonePending : Type 0
 QuietHasNonePending = InShortRuns QuietHasNonePendingIn

@@ -1,6 +1,6 @@
 -- Where the chain of a request ends, and what was told of a request by the peer that was asked for it.
-use Rattle.std.specs.Prelude.{◌≡◌, ℕ, false, All, List, [], ◌∷◌, length, Some}
-use Rattle.plant_model.specs.Types.{Addr, As, Peer, Inner, Outside, Answer, Path, Reply, Wanted, Branch, NetworkParts, PeerRow}
+use Rattle.std.specs.Prelude.{◌≡◌, ℕ, List, [], ◌∷◌, length, Some}
+use Rattle.plant_model.specs.Types.{Addr, As, Peer, Inner, Outside, Answer, Path, Reply, Wanted, Branch, NetworkParts}
 use Rattle.walk_laws.specs.Crossing.{Goal, At, Told}
 use Rattle.pcep_codes.specs.declared.no_paths.TheConstants as no_paths
 use Rattle.pcep_messages.specs.declared.message.Answer.TheVariants.{Paths, NoPath}
@@ -11,7 +11,7 @@ use Rattle.plant_model.specs.Wire.{Codec}
 use Rattle.plant_model.specs.Writing.{request_message}
 use Rattle.plant_model.specs.Branches.{branches_in, downs}
 use Rattle.plant_model.specs.Outside.{heeded_by}
-use Rattle.plant_model.specs.Routes.{toward}
+use Rattle.plant_model.specs.Routes.{toward, StaysInside}
 use Rattle.plant_model.specs.Settings.{place}
 use Rattle.plant_model.specs.State.{Takes}
 use Rattle.plant_laws.specs.Transcript.{Transcript, Within, SentIn, Visit}
@@ -73,5 +73,5 @@ ChainEnds c n w behind (one ∷ next ∷ rest) end = ChainEnds c n w behind (nex
 
 -- Where paths go on through no outside peer, a chain goes through its whole sequence, to the target.
 abbrev pub ChainsEndInside : Type 0
-ChainsEndInside = (c : Codec) (n : NetworkParts) (w : Wanted) (behind : List As) (chain : List Visit) (end : End) → All (λ (r : PeerRow). r.down ≡ false) n.peers →
+ChainsEndInside = (c : Codec) (n : NetworkParts) (w : Wanted) (behind : List As) (chain : List Visit) (end : End) → StaysInside n →
     ChainEnds c n w behind chain end → (behind ≡ []) × (end ≡ Inside w.target)

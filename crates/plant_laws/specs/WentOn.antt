@@ -1,6 +1,7 @@
 -- To which peer an open request went on, and under which id.
-use Rattle.std.specs.Prelude.{◌≡◌, ◌≢◌, ℕ, false, All, List, Some}
-use Rattle.plant_model.specs.Types.{As, Peer, Outside, Wanted, NetworkParts, PeerRow}
+use Rattle.std.specs.Prelude.{◌≡◌, ◌≢◌, ℕ, List, Some}
+use Rattle.plant_model.specs.Types.{As, Peer, Outside, Wanted, NetworkParts}
+use Rattle.plant_model.specs.Routes.{StaysInside}
 use Rattle.plant_text.specs.Names.{parent_as}
 use Rattle.plant_model.specs.Wire.{Codec}
 use Rattle.plant_model.specs.Writing.{request_message}
@@ -19,7 +20,7 @@ pub record WentOn (c : Codec) (older : Transcript) (d : As) (p : Peer) (x : ℕ)
 -- Where paths go on through no outside peer, no element sends a request on to one: so no reason is then of an outside peer.
 abbrev pub NoneGoOutIn : Codec → NetworkParts → List Entry → Plant → Type 0
 NoneGoOutIn c n es s =
-    All (λ (r : PeerRow). r.down ≡ false) n.peers → (d : As) (p : Peer) (x i y : ℕ) (older : Transcript) → d ≢ parent_as → Within older (deeds_of c n es) → ¬ WentOn c older d p x (Outside i) y
+    StaysInside n → (d : As) (p : Peer) (x i y : ℕ) (older : Transcript) → d ≢ parent_as → Within older (deeds_of c n es) → ¬ WentOn c older d p x (Outside i) y
 
 abbrev pub NoneGoOut : Type 0
 NoneGoOut = InRuns NoneGoOutIn

@@ -1,7 +1,8 @@
 -- Where paths go on through no outside peer, no element sends a request on to one.
 use Rattle.std.proofs.Common.{◌≡◌, ◌≢◌, ℕ, List, [], ◌∷◌, sym, ◌∙◌, ap, subst, inl, inr}
-use Rattle.std.specs.Prelude.{All, false}
-use Rattle.plant_model.specs.Types.{As, Peer, Outside, Inner, Message, NetworkParts, PeerRow}
+use Rattle.std.specs.Prelude.{false}
+use Rattle.plant_model.specs.Types.{As, Peer, Outside, Inner, Message, NetworkParts}
+use Rattle.plant_model.specs.Routes.{StaysInside}
 use Rattle.plant_text.specs.Names.{same_as, parent_as}
 use Rattle.plant_model.specs.declared.output.Output.{Output}
 use Rattle.plant_model.specs.Names.{the_parent}
@@ -22,7 +23,7 @@ use Rattle.plant_laws.proofs.Runs.Moments.{within_trans, opened_within}
 use Rattle.plant_laws.proofs.Runs.Unrouted.{unrouted}
 use Rattle.plant_laws.proofs.WrittenForm.RequestsWritten.{requests_are_single}
 
-module _ (c : Codec) (n : NetworkParts) (downs : All (λ (r : PeerRow). r.down ≡ false) n.peers) (d : As) (real : d ≢ parent_as) (i : ℕ) (m : Message) (ask : IsAsk m) where
+module _ (c : Codec) (n : NetworkParts) (downs : StaysInside n) (d : As) (real : d ≢ parent_as) (i : ℕ) (m : Message) (ask : IsAsk m) where
   abbrev out : Output
   out = record { to = Outside i; message = m }
 

@@ -250,7 +250,6 @@ module _ (P : Type 0) (S : Type 0) (c : Codec) (n : NetworkParts) (show : S → 
   did_pick false h k x y = y
 
   module _ (s : State P S) (kept : Inboxes s) where
-
     open_did : (i holder : ℕ) → Did (events.open_peer P S c n show i holder s)
     open_did i holder = did_pick (is_some (peer_row i n.peers)) (events.open_new P S c n show i holder s (s.accesses i).connection) (events.refused P S c n show _ s) (go (s.accesses i).connection) (kept, tt)
       where

@@ -1,11 +1,10 @@
 -- What routes leave as it is: who is asked by a link, and, where paths go on through no outside peer, that each request for a domain
 -- goes to its own element.
-use Rattle.std.specs.Prelude.{All, false}
 use Rattle.std.proofs.Common.{◌≡◌, ◌∙◌, cond, List, [], ◌∷◌, ◌++◌, map, Option, Some, None, ap, refl}
-use Rattle.plant_model.specs.Types.{As, NetworkParts, ElementRow, PeerRow, Inner}
+use Rattle.plant_model.specs.Types.{As, NetworkParts, ElementRow, Inner}
 use Rattle.plant_text.specs.Settings.{row_of, deny_at}
 use Rattle.plant_model.specs.declared.route.Route.{Route}
-use Rattle.plant_model.specs.Routes.{routes, toward}
+use Rattle.plant_model.specs.Routes.{routes, toward, StaysInside}
 use Rattle.plant_model.specs.Element.{Way, way_to}
 use Rattle.plant_model.specs.Settings.{place, place_from, outer_way}
 use Rattle.request_table.specs.Pending.{same_peer}
@@ -18,7 +17,7 @@ place_routes n d = go (row_of d n.elements)
     go None = refl
     go (Some r) = refl
 
-pub unrouted : (n : NetworkParts) → All (λ (r : PeerRow). r.down ≡ false) n.peers → (d b : As) → toward b (place n d).routes ≡ Inner b
+pub unrouted : (n : NetworkParts) → StaysInside n → (d b : As) → toward b (place n d).routes ≡ Inner b
 unrouted n downs d b = ap (toward b) (place_routes n d ∙ no_routes n d downs)
 
 -- the way along a link, with routes behind

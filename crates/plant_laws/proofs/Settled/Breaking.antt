@@ -34,8 +34,6 @@ use Rattle.plant_laws.proofs.Settled.Alive.{Core, IsAlive}
 as_self : (d : As) → same_as d d ≡ true
 as_self d = eq-eqb d.0 d.0 refl
 
-]
-
 peers_apart : (a q : As) → (a ≡ q → ⊥) → same_peer (Inner a) (Inner q) ≡ false
 peers_apart a q apart = elim (cases_Bool (same_as a q)) [ inl hit ↦ absurd (apart (same_as_is a q hit)) | inr miss ↦ miss ]
 
