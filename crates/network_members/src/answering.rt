@@ -77,13 +77,16 @@ impl Hierarchy<Topologies> {
         ensures { Commits at now.0 (Done.Domain solved) self.old result self.new }
     {
         let _at = solved.at();
-        match self.elements.commit(at, solved, now) {
-            Ok(plan) => Ok(MemberPlan::Element { at, plan }),
-            Err(Refusal { why, back }) => Err(Refusal {
-                why,
-                back: Done::Domain(back),
-            }),
-        }
+        let plan = match self.elements.commit(at, solved, now) {
+            Ok(plan) => plan,
+            Err(refusal) => {
+                return Err(Refusal {
+                    why: refusal.why,
+                    back: Done::Domain(refusal.back),
+                });
+            }
+        };
+        Ok(MemberPlan::Element { at, plan })
     }
 
     fn commit_above(
@@ -98,13 +101,16 @@ impl Hierarchy<Topologies> {
         ensures { Commits at now.0 (Done.Border solved) self.old result self.new }
     {
         let _number = solved.number();
-        match self.parent.commit(solved, now) {
-            Ok(plan) => Ok(MemberPlan::Parent(plan)),
-            Err(Refusal { why, back }) => Err(Refusal {
-                why,
-                back: Done::Border(back),
-            }),
-        }
+        let plan = match self.parent.commit(solved, now) {
+            Ok(plan) => plan,
+            Err(refusal) => {
+                return Err(Refusal {
+                    why: refusal.why,
+                    back: Done::Border(refusal.back),
+                });
+            }
+        };
+        Ok(MemberPlan::Parent(plan))
     }
 
     /// Plans the answer to a job of a member that was solved, which changes nothing yet.

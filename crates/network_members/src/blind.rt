@@ -123,10 +123,11 @@ impl Hierarchy<Blind> {
         ensures { Solves at number _rows.now now.0 self.old result self.new }
     {
         let solved = solve_job(alloc, &self.parent, number)?;
-        match self.parent.commit(solved, now) {
-            Ok(plan) => Ok(MemberPlan::Parent(plan)),
-            Err(refusal) => Err(refusal.why),
-        }
+        let plan = match self.parent.commit(solved, now) {
+            Ok(plan) => plan,
+            Err(refusal) => return Err(refusal.why),
+        };
+        Ok(MemberPlan::Parent(plan))
     }
 
     /// Plans the answer to a request of a member, which changes nothing yet: an element answers by the rows of

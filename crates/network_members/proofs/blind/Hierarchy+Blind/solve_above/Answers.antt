@@ -24,8 +24,8 @@ returns-in_err-solved c =
     (unsolved_above c.args.at c.args.number c.args._rows.now c.args.now.0 t c.self.invariant c.requires.above (subst (λ (u : Tiers Nothing Nothing). has_jobs u.network c.args.at ≡ true) (sym c.self.view_is) c.requires.there)
     c.in_err-solved.field-0.0 why))
 
-pub returns-in-Ok : goal.returns-in-Ok
-returns-in-Ok c =
+pub returns : goal.returns
+returns c =
     let t = tiers_of c.self.inside.network c.self.inside.clock.0 c.self.inside.elements c.self.inside.parent in
     subst (λ (u : Tiers Nothing Nothing). Solves c.args.at c.args.number c.args._rows.now c.args.now.0 u (Ok (plan.Parent c.in-Ok.plan)) (record t { parent = c.commit.new.self })) c.self.view_is
     (solved_at_parent c.args.at c.args.number c.args._rows.now c.args.now.0 t c.self.invariant c.requires.above (subst (λ (u : Tiers Nothing Nothing). has_jobs u.network c.args.at ≡ true) (sym c.self.view_is) c.requires.there)
