@@ -88,5 +88,8 @@ pub(crate) fn solve(
     let Ok(done) = solve_work(alloc, &work) else {
         return Err(Refused::NoMemory);
     };
-    commit(alloc, members, traffic, done).map_err(|refusal| refusal.why)
+    match commit(alloc, members, traffic, done) {
+        Ok(outcome) => Ok(outcome),
+        Err(refusal) => Err(refusal.why),
+    }
 }

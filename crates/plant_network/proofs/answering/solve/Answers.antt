@@ -1,4 +1,4 @@
-use Rattle.std.proofs.Common.{ℕ, Option, Some, refl, sym, subst}
+use Rattle.std.proofs.Common.{ℕ, Option, Some, Ok, Err, refl, subst}
 use Rattle.network_events.specs.plant_model.Types.{As}
 use Rattle.network_events.specs.plant_model.declared.event.Event.TheVariants.{Solve}
 use Rattle.network_events.specs.plant_model.declared.outcome.Refused.TheVariants.{NoMemory}
@@ -23,6 +23,16 @@ commit-requires-clause-own c =
     subst (λ (o : Option Work). IsWork (whole h) c.args.at c.args.number o) c.in-Some.is (is_work h c.args.at c.args.number c.in-Ok.found c.in-Ok.ensures.below c.in-Ok.ensures.above) in
     own_done h c.in-Ok-solve_work.done (solved_here (whole h) c.args.at c.args.number c.in-Some.work c.in-Ok-solve_work.done is c.in-Ok-solve_work.ensures).own
 
+pub returns-in-Ok-commit : goal.returns-in-Ok-commit
+returns-in-Ok-commit c =
+    let h = held c.args.members.now c.args.traffic.now in
+    let new = held c.commit.new.members c.commit.new.traffic in
+    let is : IsWork (whole h) c.args.at c.args.number (Some c.in-Some.work) =
+    subst (λ (o : Option Work). IsWork (whole h) c.args.at c.args.number o) c.in-Some.is (is_work h c.args.at c.args.number c.in-Ok.found c.in-Ok.ensures.below c.in-Ok.ensures.above) in
+    let s : IsSolvedHere (whole h) c.args.at c.args.number c.in-Ok-solve_work.done = solved_here (whole h) c.args.at c.args.number c.in-Some.work c.in-Ok-solve_work.done is c.in-Ok-solve_work.ensures in
+    subst (λ (d : As). Moves h (Solve d c.args.number) (Ok c.in-Ok-commit.outcome) new) s.at
+    (subst (λ (k : ℕ). Moves h (Solve (solved_at c.in-Ok-solve_work.done) k) (Ok c.in-Ok-commit.outcome) new) s.number c.in-Ok-commit.ensures.moves)
+
 pub returns : goal.returns
 returns c =
     let h = held c.args.members.now c.args.traffic.now in
@@ -30,6 +40,5 @@ returns c =
     let is : IsWork (whole h) c.args.at c.args.number (Some c.in-Some.work) =
     subst (λ (o : Option Work). IsWork (whole h) c.args.at c.args.number o) c.in-Some.is (is_work h c.args.at c.args.number c.in-Ok.found c.in-Ok.ensures.below c.in-Ok.ensures.above) in
     let s : IsSolvedHere (whole h) c.args.at c.args.number c.in-Ok-solve_work.done = solved_here (whole h) c.args.at c.args.number c.in-Some.work c.in-Ok-solve_work.done is c.in-Ok-solve_work.ensures in
-    subst (λ (a : Answered). Moves h (Solve c.args.at c.args.number) a new) (sym (told_of c.commit.result c.map_err.result c.map_err.ensures.cases))
-    (subst (λ (d : As). Moves h (Solve d c.args.number) (told c.commit.result) new) s.at
-    (subst (λ (k : ℕ). Moves h (Solve (solved_at c.in-Ok-solve_work.done) k) (told c.commit.result) new) s.number c.commit.ensures.moves))
+    subst (λ (d : As). Moves h (Solve d c.args.number) (Err c.in-Err.refusal.why) new) s.at
+    (subst (λ (k : ℕ). Moves h (Solve (solved_at c.in-Ok-solve_work.done) k) (Err c.in-Err.refusal.why) new) s.number c.in-Err.ensures.moves)
