@@ -1,6 +1,5 @@
 -- A member that answers a solved job is the model's solve.
 use Rattle.std.proofs.Common.{◌≡◌, ℕ, true, Result, Ok, Err, List, [], ◌∷◌, inl, inr, refl, sym, ◌∙◌, ap, subst}
-use Rattle.std.specs.Prelude.{MatchResult, IsErrAnd}
 use Rattle.network_events.specs.plant_model.Types.{As, NetworkParts}
 use Rattle.disclosure.specs.Shown.{open_of}
 use Rattle.plant_text.specs.Names.{parent_as}
@@ -169,12 +168,6 @@ module _ (t t' : Tiers) (c c' : Carried) (d : As) (k : ℕ) where
         stepped = record { network = network; deeds = deed.deeds_are; steps = deed.steps; accepted = deed.says; refused = tt };
         kept = kept;
       }
-
--- what is told of a job that is answered, or is not
-pub told_of : (r : Result Outcome (Refusal Done)) (a : Answered) → MatchResult r (λ o. a ≡ Ok o) (λ e. IsErrAnd a (λ why. why ≡ e.why)) → a ≡ told r
-told_of (Ok o) a is = is
-told_of (Err e) (Ok o) is = absurd is
-told_of (Err e) (Err why) is = ap (λ (w : Refused). let a : Answered = Err w in a) is
 
 -- ---- what is planned, and then done
 

@@ -5,9 +5,9 @@ use Rattle.network_events.specs.plant_model.declared.outcome.Refused.TheVariants
 use Rattle.network_events.specs.plant_model.Events.{Answered}
 use Rattle.network_members.specs.pce_parent.declared.work.Work.{Work}
 use Rattle.plant_network.specs.Topologies.{Moves, held, whole}
-use Rattle.plant_network.specs.Jobs.{IsWork, solved_at, told}
+use Rattle.plant_network.specs.Jobs.{IsWork, solved_at}
 use Rattle.plant_network.proofs.JobLemmas.{IsSolvedHere, is_work, own_done, solved_here}
-use Rattle.plant_network.proofs.SolveLemmas.{moves_refused, stays, told_of}
+use Rattle.plant_network.proofs.SolveLemmas.{moves_refused, stays}
 use Rattle.plant_network.proofs.answering.solve.Goals as goal
 
 pub returns-in_default-solve_work : goal.returns-in_default-solve_work
