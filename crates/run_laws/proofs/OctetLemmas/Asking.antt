@@ -65,7 +65,6 @@ new_ways d (x ∷ xs) = go (same_as x.lower d) (same_as x.upper d) (new_ways d x
     go false false more = more
 
 module _ (c : Codec) (codec : IsCodec c) (n : NetworkParts) where
-
   meant_reply : (flags id : ℕ) (a : Answer) → IsMeant c n (reply_message flags id a)
   meant_reply flags id a asked is = absurd (let clash : 4 ≡ 3 = codec.texts.kinds (reply_message flags id a) (messages.PcReq asked) is in omega (arith, clash))
 
