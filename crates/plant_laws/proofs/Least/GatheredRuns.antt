@@ -44,6 +44,7 @@ use Rattle.plant_laws.proofs.Runs.Readings.{messages_are_read}
 use Rattle.plant_laws.proofs.Least.ReadyRows.{IsOneReply, sent_one, sent_within, the_one}
 use Rattle.plant_laws.proofs.Least.FromElement.{within_tail}
 use Rattle.plant_laws.proofs.Least.ParentRows as rows
+use Rattle.plant_laws.proofs.Runs.TablesKept.{in_rows, rows_in}
 use Rattle.plant_laws.proofs.Least.Gathers.{Took, IsFilled, filled_later, filled_more, filled_new}
 
 -- a request of the parent that is ready
@@ -115,9 +116,9 @@ module _ (c : Codec) (n : NetworkParts) where
 
       replies_come : (h : AskingRow) → In h (parent.each (parent.take_reply c q) rs s.parent).parent.pending.rows → Q h.1
       replies_come h i =
-          rows.in_rows Q c q rs made h (parent.each (parent.take_reply c q) rs s.parent).parent.pending.rows
-          (rows.replies_after Q c q rs made rs (λ r j. j) s.parent
-          (record { rise = held.parent.numbers; rows = rows.rows_in Q c q rs made s.parent.pending.rows (stays (Takes parent_as q (messages.PcRep rs) os) ds s old) })).rows i
+          in_rows Q h (parent.each (parent.take_reply c q) rs s.parent).parent.pending.rows
+          (rows.replies_keep Q c q rs made s.parent
+          (record { rise = held.parent.numbers; rows = rows_in Q s.parent.pending.rows (stays (Takes parent_as q (messages.PcRep rs) os) ds s old) })).rows i
 
     -- all but requests and replies
     module _ (e : PlantDeed) where
@@ -125,22 +126,22 @@ module _ (c : Codec) (n : NetworkParts) where
       none_made h r none waits x = absurd none
 
       begins : rows.Holds (Comes e ds s) c q [] none_made s.parent
-      begins = record { rise = held.parent.numbers; rows = rows.rows_in (Comes e ds s) c q [] none_made s.parent.pending.rows (stays e ds s old) }
+      begins = record { rise = held.parent.numbers; rows = rows_in (Comes e ds s) s.parent.pending.rows (stays e ds s old) }
 
       others : (k : Parent) → rows.Holds (Comes e ds s) c q [] none_made k → (h : AskingRow) → In h k.pending.rows → Comes e ds s h.1
-      others k holds h i = rows.in_rows (Comes e ds s) c q [] none_made h k.pending.rows holds.rows i
+      others k holds h i = in_rows (Comes e ds s) h k.pending.rows holds.rows i
 
       pub notices_come : (notices : _) (h : AskingRow) → In h (parent.each (parent.take_notice q) notices s.parent).parent.pending.rows → Comes e ds s h.1
-      notices_come notices = others (parent.each (parent.take_notice q) notices s.parent).parent (rows.notices_after (Comes e ds s) c q [] none_made notices s.parent begins)
+      notices_come notices = others (parent.each (parent.take_notice q) notices s.parent).parent (rows.notices_keep (Comes e ds s) c q [] none_made notices s.parent begins)
 
       pub reports_come : (reports : _) (h : AskingRow) → In h (parent.each (parent.take_report q) reports s.parent).parent.pending.rows → Comes e ds s h.1
-      reports_come reports = others (parent.each (parent.take_report q) reports s.parent).parent (rows.reports_after (Comes e ds s) c q [] none_made reports s.parent begins)
+      reports_come reports = others (parent.each (parent.take_report q) reports s.parent).parent (rows.reports_keep (Comes e ds s) c q [] none_made reports s.parent begins)
 
       pub downed_come : (p : Peer) (h : AskingRow) → In h (parent.downed p s.parent).parent.pending.rows → Comes e ds s h.1
-      downed_come p = others (parent.downed p s.parent).parent (rows.downed_after (Comes e ds s) c q [] none_made p s.parent begins)
+      downed_come p = others (parent.downed p s.parent).parent (rows.downed_keeps (Comes e ds s) c q [] none_made p s.parent begins)
 
       pub commit_come : (row : AskingRow) (a : _) (h : AskingRow) → In h (parent.commit c row a s.parent).parent.pending.rows → Comes e ds s h.1
-      commit_come row a = others (parent.commit c row a s.parent).parent (rows.commit_after (Comes e ds s) c q [] none_made row a s.parent begins)
+      commit_come row a = others (parent.commit c row a s.parent).parent (rows.commit_keeps (Comes e ds s) c q [] none_made row a s.parent begins)
 
     -- a request
     module _ (m : Message) where

@@ -38,8 +38,9 @@ use Rattle.plant_model.specs.Outside.{heeded, heeded_by}
 use Rattle.plant_laws.specs.Transcript.{Within}
 use Rattle.plant_laws.proofs.Runs.Moments.{peer_is}
 use Rattle.plant_laws.proofs.Settled.Waits.{Both, SentAt, still, is_open, act_both, load_both, solve_both, upper_both}
-use Rattle.plant_laws.proofs.Least.StagesKept as kept
-use Rattle.plant_laws.proofs.Least.StagesKept.{IsFresh}
+use Rattle.plant_laws.proofs.Least.RowsKept.{IsFresh, take_keeps, downed_keeps, commit_keeps}
+use Rattle.plant_laws.proofs.Runs.TablesKept as table
+use Rattle.plant_laws.proofs.Runs.TakesKept.{replies_of}
 use Rattle.plant_laws.specs.Ends.{Tells, IsHeeded}
 use Rattle.plant_laws.specs.Waiting.{wait_alike}
 use Rattle.plant_laws.proofs.Runs.Seen.{seen}
@@ -118,29 +119,9 @@ module _ (c : Codec) (old : List (Row Pin)) (p : Peer) (rs : List Reply) where
   made_ready h r paths i upper waits tells (inr (inl q)) = absurd (no_wait r q.0.1.item (branches_in c q.0.1.item.wanted.query.metric q.3.paths) h.item q.3.is waits)
   made_ready h r paths i upper waits tells (inr (inr q)) = absurd (none_in r q.0 i)
 
-  abbrev Held_ : Element Pin Segment → Type 0
-  Held_ k = kept.Holds Pin Segment FromOld c p rs made_ready k
-
-  -- by the one membership and the other
-  pub of_rows : (xs : List (Row Pin)) → kept.Rows Pin Segment FromOld c p rs made_ready xs → (h : Row Pin) → In h xs → FromOld h.1
-  of_rows [] r h i = absurd i
-  of_rows (x ∷ xs) r h (inl same) = subst (λ (z : Row Pin). FromOld z.1) same r.0
-  of_rows (x ∷ xs) r h (inr i) = of_rows xs r.1 h i
-
-  pub to_rows : (xs : List (Row Pin)) → ((h : Row Pin) → In h xs → In h old) → kept.Rows Pin Segment FromOld c p rs made_ready xs
-  to_rows [] within = tt
-  to_rows (x ∷ xs) within = (inl (x, within x (inl refl), refl, refl), to_rows xs (λ h i. within h (inr i)))
-
--- the rows of an element after it took a message
-abbrev replies_of : Message → List Reply
-replies_of (messages.PcRep replies) = replies
-replies_of (messages.PcReq asks) = []
-replies_of (messages.PcNtf notices) = []
-replies_of (messages.PcErr reports) = []
-replies_of (messages.Open body) = []
-replies_of messages.Keepalive = []
-replies_of (messages.Close why) = []
-replies_of (messages.Other kind) = []
+  -- rows as they were
+  pub as_old : (xs : List (Row Pin)) → ((h : Row Pin) → In h xs → In h old) → table.Rows FromOld xs
+  as_old xs within = table.rows_in FromOld xs (λ h i. inl (h, within h i, refl, refl))
 
 -- what is heeded
 module _ (c : Codec) where
@@ -194,43 +175,26 @@ one_sequence rows h g once i j key =
     let some : Some h.1.item.sequence ≡ Some g.1.item.sequence = sym (seen_in f rows h once i) ∙ ap (λ (k : RequestKey). seen f k rows) key ∙ seen_in f rows g once j in
     cc
 
-module _ (c : Codec) (e : ElementSettings) (pin : Pin) (p : Peer) (class : Class) (now : ℕ) (k : Element Pin Segment) (numbers : NumbersRise 0 k.pending.rows k.pending.given) where
-  abbrev From : List Reply → Row Pin → Type 0
-  From rs h = FromOld c k.pending.rows p rs h.1
+-- the rows of an element after it took a message
+module _ (c : Codec) (k : Element Pin Segment) (numbers : NumbersRise 0 k.pending.rows k.pending.given) (p : Peer) where
+  abbrev From : List Reply → Held (Item Pin) → Type 0
+  From rs = FromOld c k.pending.rows p rs
 
-  begins : (rs : List Reply) → kept.Holds Pin Segment (FromOld c k.pending.rows p rs) c p rs (made_ready c k.pending.rows p rs) k
-  begins rs = record { rise = numbers; rows = to_rows c k.pending.rows p rs k.pending.rows (λ h i. i) }
+  begins : (rs : List Reply) → table.Keeps (From rs) k.pending
+  begins rs = record { rise = numbers; rows = as_old c k.pending.rows p rs k.pending.rows (λ h i. i) }
 
-  others : (m : Message) → kept.AreReplies Pin Segment (FromOld c k.pending.rows p []) c p [] (made_ready c k.pending.rows p []) e pin class
-      (λ a r w is path sequence stage fresh. inr (inr (refl, fresh))) m → (h : Row Pin) → In h (take c open_of e pin p class now m k).element.pending.rows → From [] h
-  others m none h i =
-      of_rows c k.pending.rows p [] (take c open_of e pin p class now m k).element.pending.rows
-      (kept.take_keeps Pin Segment (FromOld c k.pending.rows p []) c p [] (made_ready c k.pending.rows p []) e pin class
-      (λ a r w is path sequence stage fresh. inr (inr (refl, fresh))) open_of now m none k (begins [])).rows h i
+  pub take_from : (e : ElementSettings) (pin : Pin) (class : Class) (now : ℕ) (m : Message) (h : Row Pin) → In h (take c open_of e pin p class now m k).element.pending.rows → From (replies_of m) h.1
+  take_from e pin class now m h i =
+      table.in_rows (From (replies_of m)) h (take c open_of e pin p class now m k).element.pending.rows
+      (take_keeps (From (replies_of m)) c e pin p class open_of now m (λ none a r w is wish sequence stage fresh. inr (inr (none, fresh))) (made_ready c k.pending.rows p (replies_of m)) k (begins (replies_of m))).rows i
 
-  pub take_from : (m : Message) (h : Row Pin) → In h (take c open_of e pin p class now m k).element.pending.rows → From (replies_of m) h
-  take_from (messages.PcRep replies) h i =
-      of_rows c k.pending.rows p replies (take c open_of e pin p class now (messages.PcRep replies) k).element.pending.rows
-      (kept.replies_after Pin Segment (FromOld c k.pending.rows p replies) c p replies (made_ready c k.pending.rows p replies) replies (λ r j. j) k (begins replies)).rows h i
-  take_from (messages.PcReq asks) h i = others (messages.PcReq asks) tt h i
-  take_from (messages.PcNtf notices) h i = others (messages.PcNtf notices) tt h i
-  take_from (messages.PcErr reports) h i = others (messages.PcErr reports) tt h i
-  take_from (messages.Open body) h i = others (messages.Open body) tt h i
-  take_from messages.Keepalive h i = others messages.Keepalive tt h i
-  take_from (messages.Close why) h i = others (messages.Close why) tt h i
-  take_from (messages.Other kind) h i = others (messages.Other kind) tt h i
+  pub downed_from : (q : Peer) (h : Row Pin) → In h (downed q k).element.pending.rows → From [] h.1
+  downed_from q h i = table.in_rows (From []) h (downed q k).element.pending.rows (downed_keeps (From []) q k (begins [])).rows i
 
-module _ (c : Codec) (k : Element Pin Segment) (numbers : NumbersRise 0 k.pending.rows k.pending.given) (q : Peer) where
-  pub downed_from : (p : Peer) (h : Row Pin) → In h (downed p k).element.pending.rows → FromOld c k.pending.rows q [] h.1
-  downed_from p h i =
-      of_rows c k.pending.rows q [] (downed p k).element.pending.rows
-      (kept.downed_keeps Pin Segment (FromOld c k.pending.rows q []) c q [] (made_ready c k.pending.rows q []) p k (record { rise = numbers; rows = to_rows c k.pending.rows q [] k.pending.rows (λ g j. j) })).rows h i
-
-  pub commit_from : (e : ElementSettings) (row : Row Pin) (down : List Branch) (now : ℕ) (s t : Bool) (best : List _) (h : Row Pin) → In h (commit c e row down now (λ b. b.segment) (job_found s t best) k).element.pending.rows → FromOld c k.pending.rows q [] h.1
+  pub commit_from : (e : ElementSettings) (row : Row Pin) (down : List Branch) (now : ℕ) (s t : Bool) (best : List _) (h : Row Pin) → In h (commit c e row down now (λ b. b.segment) (job_found s t best) k).element.pending.rows → From [] h.1
   commit_from e row down now s t best h i =
-      of_rows c k.pending.rows q [] (commit c e row down now (λ b. b.segment) (job_found s t best) k).element.pending.rows
-      (kept.commit_keeps Pin Segment (FromOld c k.pending.rows q []) c q [] (made_ready c k.pending.rows q []) c e row down now (λ b. b.segment) s t best k
-      (record { rise = numbers; rows = to_rows c k.pending.rows q [] k.pending.rows (λ g j. j) })).rows h i
+      table.in_rows (From []) h (commit c e row down now (λ b. b.segment) (job_found s t best) k).element.pending.rows
+      (commit_keeps (From []) c e row down now (λ b. b.segment) s t best k (begins [])).rows i
 
 module _ (c : Codec) (n : NetworkParts) where
   abbrev Core : Type 0
@@ -420,7 +384,7 @@ module _ (c : Codec) (n : NetworkParts) where
       (stay (Takes at p m r.outputs) s u (λ d. ap (λ (f : As → Element Pin Segment). (f d).pending) (puts_elements c n at r.outputs (with_parent Pin Segment c n open_of r.parent s)))))
       (λ low next. ready_after (Takes at p m t.outputs) (es ++ ds) s v all.0 all.1 next
       (come (Takes at p m t.outputs) at t.element s v (puts_elements c n at t.outputs (with_element Pin Segment c n open_of at t.element s))
-      (λ h i. take_comes at s p m t.outputs heeds h (take_from c (place n at) (s.current at) p (class_of n p) s.clock (s.elements at) (numbers (es ++ ds) s all.0 at) m h i))))
+      (λ h i. take_comes at s p m t.outputs heeds h (take_from c (s.elements at) (numbers (es ++ ds) s all.0 at) p (place n at) (s.current at) (class_of n p) s.clock m h i))))
 
   fall_ready : (at : As) (p : Peer) (s : Core) (ds : Transcript) → All ds s →
       (let g = fall Pin Segment c n open_of at p (record { state = s; deeds = [] }) in Holds c n (g.deeds ++ ds) g.state → AreReady (g.deeds ++ ds) g.state)

@@ -46,7 +46,7 @@ use Rattle.plant_laws.proofs.Once.OpenTables.{taken, found}
 use Rattle.plant_laws.proofs.Least.Given.{OfSolve, OfKey}
 use Rattle.plant_laws.proofs.Least.Spoken.{is_reply}
 use Rattle.plant_laws.proofs.Settled.Waits.{Both, SentAt, act_both}
-use Rattle.plant_laws.proofs.Least.Readied.{All, act_all, load_all, solve_all, upper_all, waits_both, numbers, to_rows}
+use Rattle.plant_laws.proofs.Least.Readied.{All, act_all, load_all, solve_all, upper_all, waits_both, numbers, as_old}
 use Rattle.plant_laws.proofs.Once.TakeSays.{OneTold, IsPassedOn, asked_says, replies_say, not_known, other_one}
 use Rattle.plant_laws.specs.Certified.{Tells}
 
@@ -223,7 +223,7 @@ module _ (c : Codec) (n : NetworkParts) where
       let t = take c open_of (place n at) (s.current at) q (class_of n q) s.clock (messages.PcRep rs) (s.elements at) in
       passed_on at q s older both p r rs t.outputs paths tells
       (replies_say p r paths tells c q (s.elements at).pending.rows rs rs (λ x i. i) (s.elements at)
-      (record { rise = numbers c n older s both at; rows = to_rows c (s.elements at).pending.rows q rs (s.elements at).pending.rows (λ h i. i) }) said)
+      (record { rise = numbers c n older s both at; rows = as_old c (s.elements at).pending.rows q rs (s.elements at).pending.rows (λ h i. i) }) said)
   take_replied at q (messages.PcNtf notices) s older one both p r paths tells = λ said.
       absurd (each_silent p r paths tells (take_notice q) (λ x k. each_silent p r paths tells (λ (rp : ℕ × ℕ). each (λ (step : Peer → ℕ × ℕ → Element Pin Segment → Taken Pin Segment). step q rp) (notice_steps x.kinds))
       (λ rp k'. steps_silent p r paths tells q rp x.kinds k') x.ids k) notices (s.elements at) said)
