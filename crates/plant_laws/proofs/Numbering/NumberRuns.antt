@@ -39,7 +39,7 @@ use Rattle.plant_laws.proofs.Runs.Rows.{In}
 use Rattle.plant_laws.proofs.Numbering.Sends.{NoneAsks}
 use Rattle.plant_laws.proofs.Once.Takes.{IsSingle}
 use Rattle.plant_laws.proofs.Once.Opened.{AreSingle, puts_elements}
-use Rattle.plant_laws.proofs.Once.OpenedRuns.{give_single, fall_single, rise_single}
+use Rattle.plant_laws.proofs.Once.DeedByDeed.{give_single, fall_single, rise_single}
 use Rattle.plant_laws.proofs.Least.Subsides.{commit_subs, downed_subs}
 use Rattle.plant_laws.proofs.Numbering.SentOn.{same_peer_is}
 use Rattle.plant_laws.proofs.Numbering.Numbers.{last, last_up, AtMost, fresh_is_next, most_before, wait_subs, Numbers, Goes, stays, take_numbers, commit_stays}

@@ -37,7 +37,7 @@ use Rattle.plant_laws.proofs.Once.Handing.{In, IsAsk}
 use Rattle.plant_laws.proofs.Numbering.Sends.{NoneAsks, Each}
 use Rattle.plant_laws.proofs.Once.Takes.{IsSingle, own_is}
 use Rattle.plant_laws.proofs.Once.Opened.{AreSingle}
-use Rattle.plant_laws.proofs.Once.OpenedRuns.{give_single, fall_single, rise_single}
+use Rattle.plant_laws.proofs.Once.DeedByDeed.{give_single, fall_single, rise_single}
 use Rattle.plant_laws.proofs.Numbering.Onward.{GoesTo, take_of, way_peer, none_lost, calm_commit}
 use Rattle.plant_laws.proofs.Least.Given.{OfSolve, OfKey}
 use Rattle.plant_laws.proofs.Least.Spoken.{one_said, reply_is}
