@@ -5,14 +5,13 @@ use Rattle.disclosure.specs.Shown.{open_of}
 use Rattle.plant_text.specs.Names.{same_as}
 use Rattle.plant_model.specs.Wire.{Codec}
 use Rattle.plant_model.specs.Element.{Element}
-use Rattle.plant_text.specs.Settings.{class_of}
+use Rattle.plant_text.specs.Settings.{class_of, life, life_from, row_of}
 use Rattle.plant_model.specs.Settings.{place}
 use Rattle.plant_model.specs.Plant.{Pin, Segment, Plant, Entry, Run}
 use Rattle.std.specs.Prelude.{◌≤◌, All}
 use Rattle.std.proofs.lemmas.List.Elements.{All-head, All-tail}
 use Rattle.path_keys.specs.Keys.{Keys, issue_of}
 use Rattle.plant_model.specs.Solving.{issued_all}
-use Rattle.plant_text.specs.Settings.{life, life_from, row_of}
 use Rattle.plant_model.specs.Laws.{IsElement, IsNetwork}
 use Rattle.plant_laws.proofs.Keys.KeysKept.{take_keys}
 use Rattle.plant_laws.proofs.Runs.TakesKept.{commit_after}

@@ -33,10 +33,9 @@ use Rattle.plant_laws.proofs.Runs.Rows.{In, in_of, seen_in, in_append}
 use Rattle.plant_laws.proofs.WrittenForm.ReadBack.{run_single, standing_sent}
 use Rattle.plant_laws.proofs.Once.ParentSteps as upper
 use Rattle.plant_laws.proofs.Once.Takes.{IsSingle}
-use Rattle.plant_laws.proofs.Once.Opened.{Matches, AreSingle, IsUpperRequest, Holds, holds_same, puts_parent}
+use Rattle.plant_laws.proofs.Once.Opened.{Matches, AreSingle, IsUpperRequest, Holds, holds_same, puts_parent, single_deed}
 use Rattle.plant_laws.proofs.Once.OpenedRuns.{does_hold, bare_holds}
-use Rattle.plant_laws.proofs.Once.DeedByDeed.{Does, takes_above, takes_below, downs_above, downs_below, ups_above, ups_below, solves_above, solves_below, pops, hands_out, says_own, clears_link, expires_at, loads_rows}
-use Rattle.plant_laws.proofs.Once.DeedByDeed.{run_keeps}
+use Rattle.plant_laws.proofs.Once.DeedByDeed.{Does, takes_above, takes_below, downs_above, downs_below, ups_above, ups_below, solves_above, solves_below, pops, hands_out, says_own, clears_link, expires_at, loads_rows, run_singles}
 use Rattle.plant_laws.proofs.Once.OpenTables.{row_matched}
 use Rattle.plant_laws.proofs.Settled.Waits.{still, begun}
 use Rattle.plant_laws.proofs.Runs.Readings.{messages_are_read}
@@ -200,43 +199,43 @@ module _ (c : Codec) (n : NetworkParts) where
   abbrev Both : Transcript → Core → Type 0
   Both ds s = Holds c n ds s × AreGathered ds s
 
-  comes_of : (s t : Core) (ds : Transcript) (e : PlantDeed) → Does c n s e t → Both ds s → (h : AskingRow) → In h t.parent.pending.rows → Comes e ds s h.1
-  comes_of s t ds e (takes_above at p m s' up one) both = λ h i.
+  comes_of : (s t : Core) (ds : Transcript) (e : PlantDeed) → Does c n s e t → single_deed e → Both ds s → (h : AskingRow) → In h t.parent.pending.rows → Comes e ds s h.1
+  comes_of s t ds e (takes_above at p m s' up) one both = λ h i.
       let r = parent.take c (family n) p m s.parent in
       subst (λ (z : As). Comes (Takes z p m r.outputs) ds s h.1) (sym (same_as_is at parent_as up))
       (take_comes ds s both.0 both.1 p m one h (subst (λ (k : Parent). In h k.pending.rows) (puts_parent c n at r.outputs (with_parent Pin Segment c n open_of r.parent s)) i))
-  comes_of s t ds e (takes_below at p m s' low one heard) both =
+  comes_of s t ds e (takes_below at p m s' low heard) one both =
       let r = take c open_of (place n at) (s.current at) p (class_of n p) s.clock m (s.elements at) in
       stay e ds s t (puts_parent c n at r.outputs (with_element Pin Segment c n open_of at r.element s)) both.1
-  comes_of s t ds e (downs_above at p s' up) both = λ h i.
+  comes_of s t ds e (downs_above at p s' up) one both = λ h i.
       let r = parent.downed p s.parent in
       downed_come ds s both.0 both.1 p e p h (subst (λ (k : Parent). In h k.pending.rows) (puts_parent c n at r.outputs (with_parent Pin Segment c n open_of r.parent s)) i)
-  comes_of s t ds e (downs_below at p s' low) both = let r = downed p (s.elements at) in stay e ds s t (puts_parent c n at r.outputs (with_element Pin Segment c n open_of at r.element s)) both.1
-  comes_of s t ds e (ups_above at p s' up) both = λ h i. stays e ds s both.1 h i
-  comes_of s t ds e (ups_below at p s' low) both = stay e ds s t refl both.1
-  comes_of s t ds e (solves_above k h s' x) both = λ g i.
+  comes_of s t ds e (downs_below at p s' low) one both = let r = downed p (s.elements at) in stay e ds s t (puts_parent c n at r.outputs (with_element Pin Segment c n open_of at r.element s)) both.1
+  comes_of s t ds e (ups_above at p s' up) one both = λ h i. stays e ds s both.1 h i
+  comes_of s t ds e (ups_below at p s' low) one both = stay e ds s t refl both.1
+  comes_of s t ds e (solves_above k h s' x) one both = λ g i.
       let r = parent.commit c (k, x.held) x.answer s.parent in
       commit_come ds s both.0 both.1 x.held.key.peer e (k, x.held) x.answer g (subst (λ (z : Parent). In g z.pending.rows) (puts_parent c n parent_as r.outputs (with_parent Pin Segment c n open_of r.parent s)) i)
-  comes_of s t ds e (solves_below d k h s' x) both =
+  comes_of s t ds e (solves_below d k h s' x) one both =
       let r = commit c (place n d) (k, x.held) x.down s.clock (λ b. b.segment) (job_found x.rows.source_known x.rows.target_known x.rows.best) (s.elements d) in
       stay e ds s t (puts_parent c n d r.outputs (with_element Pin Segment c n open_of d r.element s)) both.1
-  comes_of s t ds e (pops a b rest s') both = stay e ds s t refl both.1
-  comes_of s t ds e (hands_out i bytes s') both = stay e ds s t refl both.1
-  comes_of s t ds e (says_own at p o s') both = stay e ds s t (puts_parent c n at (record { to = p; message = own_message o } ∷ []) s) both.1
-  comes_of s t ds e (clears_link x s') both = stay e ds s t refl both.1
-  comes_of s t ds e (expires_at now s') both = stay e ds s t refl both.1
-  comes_of s t ds e (loads_rows d g s') both = stay e ds s t refl both.1
+  comes_of s t ds e (pops a b rest s') one both = stay e ds s t refl both.1
+  comes_of s t ds e (hands_out i bytes s') one both = stay e ds s t refl both.1
+  comes_of s t ds e (says_own at p o s') one both = stay e ds s t (puts_parent c n at (record { to = p; message = own_message o } ∷ []) s) both.1
+  comes_of s t ds e (clears_link x s') one both = stay e ds s t refl both.1
+  comes_of s t ds e (expires_at now s') one both = stay e ds s t refl both.1
+  comes_of s t ds e (loads_rows d g s') one both = stay e ds s t refl both.1
 
   both_same : (ds : Transcript) (s t : Core) → t.elements ≡ s.elements → t.parent ≡ s.parent → t.current ≡ s.current → Both ds s → Both ds t
   both_same ds s t elements above current both = (holds_same c n ds s t elements above current both.0, λ h i. both.1 h (subst (λ (k : Parent). In h k.pending.rows) above i))
 
-  does_both : (ds : Transcript) (s t : Core) (e : PlantDeed) → Does c n s e t → Both ds s → Both (e ∷ ds) t
-  does_both ds s t e does both =
-      let next = does_hold c n ds s t e does both.0 in
-      (next, after e ds s t both.0 next (comes_of s t ds e does both))
+  does_both : (ds : Transcript) (s t : Core) (e : PlantDeed) → Does c n s e t → single_deed e → Both ds s → Both (e ∷ ds) t
+  does_both ds s t e does one both =
+      let next = does_hold c n ds s t e does one both.0 in
+      (next, after e ds s t both.0 next (comes_of s t ds e does one both))
 
   pub run_gathers : (es : List Entry) (s : Plant) → Run c n es s → AreSingle (deeds_of c n es) → AreGathered (deeds_of c n es) s
-  run_gathers es s run single = (run_keeps c n Both both_same does_both (λ z. (bare_holds c n z, (λ h none. absurd none))) es s run single).1
+  run_gathers es s run single = (run_singles c n Both both_same does_both (λ z. (bare_holds c n z, (λ h none. absurd none))) es s run single).1
 
 -- ---- what is ready
 

@@ -5,13 +5,13 @@ use Rattle.std.specs.Option.{option_map}
 use Rattle.plant_model.specs.Types.{As, Peer, Outside, Inner, Message, RequestKey, NetworkParts, Held, Path, Reply, Wanted, Class, Branch}
 use Rattle.te_links.specs.Rows.{Rows}
 use Rattle.disclosure.specs.Shown.{open_of}
-use Rattle.request_table.specs.Pending.{Pending}
+use Rattle.request_table.specs.Pending.{Pending, same_peer, same_key, NumbersRise, AreNamedOnce}
 use Rattle.plant_model.specs.declared.output.Output.{Output}
 use Rattle.plant_text.specs.Names.{same_as, parent_as}
 use Rattle.plant_model.specs.Names.{the_parent, set_as}
 use Rattle.plant_model.specs.Wire.{Codec}
 use Rattle.plant_model.specs.Writing.{request_message}
-use Rattle.plant_model.specs.Element.{Stage, Waits, Ready, Item, Element, Row, upped, downed}
+use Rattle.plant_model.specs.Element.{Stage, Waits, Ready, Item, Element, Row, upped, downed, at_stage, waits_for, waiting, sent_through, ElementSettings}
 use Rattle.plant_model.specs.Taking.{take}
 use Rattle.plant_model.specs.Solving.{commit, job_found}
 use Rattle.plant_model.specs.Parent as parent
@@ -19,24 +19,19 @@ use Rattle.plant_text.specs.Settings.{class_of}
 use Rattle.plant_model.specs.Settings.{place, family}
 use Rattle.plant_model.specs.State.{State, Takes}
 use Rattle.plant_model.specs.Deeds.{own_message, with_parent, with_element, rise}
-use Rattle.plant_model.specs.Plant.{Pin, Segment, Plant, PlantDeed, Entry, Run, deeds_of}
-use Rattle.plant_laws.specs.Transcript.{Transcript, effect, opened, SentIn}
+use Rattle.plant_model.specs.Plant.{Pin, Segment, Plant, PlantDeed, Entry, Run, deeds_of, first_pin}
+use Rattle.plant_laws.specs.Transcript.{Transcript, effect, opened, SentIn, Within}
 use Rattle.plant_laws.proofs.Runs.Queues.{same_as_is}
 use Rattle.plant_laws.proofs.Runs.Rows.{In, seen_in}
-use Rattle.plant_laws.proofs.Once.Opened.{AreSingle, Holds, puts_elements, set_pending}
-use Rattle.plant_laws.proofs.Once.DeedByDeed.{Does, takes_above, takes_below, downs_above, downs_below, ups_above, ups_below, solves_above, solves_below, pops, hands_out, says_own, clears_link, expires_at, loads_rows}
-use Rattle.plant_laws.proofs.Once.DeedByDeed.{ComesAs, run_keeps}
+use Rattle.plant_laws.proofs.Once.Opened.{AreSingle, Holds, puts_elements, set_pending, single_deed}
+use Rattle.plant_laws.proofs.Once.DeedByDeed.{Does, takes_above, takes_below, downs_above, downs_below, ups_above, ups_below, solves_above, solves_below, pops, hands_out, says_own, clears_link, expires_at, loads_rows, ComesAs, run_singles}
 use Rattle.plant_model.specs.Events as events
-use Rattle.plant_model.specs.Plant.{first_pin}
 use Rattle.plant_laws.proofs.Numbering.SentOn.{IsRest}
 use Rattle.std.specs.Prelude.{◌==◌}
 use Rattle.pcep_messages.specs.declared.message.Message.TheVariants as messages
-use Rattle.request_table.specs.Pending.{same_peer, same_key, NumbersRise, AreNamedOnce}
 use Rattle.request_table.proofs.KeyLemmas.{same_key_is}
 use Rattle.plant_model.specs.Branches.{branches_in}
-use Rattle.plant_model.specs.Element.{at_stage, waits_for, waiting, sent_through, ElementSettings}
 use Rattle.plant_model.specs.Outside.{heeded, heeded_by}
-use Rattle.plant_laws.specs.Transcript.{Within}
 use Rattle.plant_laws.proofs.Runs.Moments.{peer_is}
 use Rattle.plant_laws.proofs.Settled.Waits.{Both, SentAt, still, is_open, both_same, does_both, bare_both}
 use Rattle.plant_laws.proofs.Least.RowsKept.{IsFresh, take_keeps, downed_keeps, commit_keeps}
@@ -378,42 +373,42 @@ module _ (c : Codec) (n : NetworkParts) where
   heeds at (Outside i) m s heard =
       subst (λ (z : Message). (r : Reply) → In r (replies_of z) → Heeds c (Outside i) (s.elements at).pending.rows r) (sym heard.1) (heeds_of c i (s.elements at).pending.rows heard.0)
 
-  comes_of : (s t : Core) (ds : Transcript) (e : PlantDeed) → Does c n s e t → Both c n ds s → (d : As) (h : Row Pin) → In h (t.elements d).pending.rows → ComesFrom e s d h
-  comes_of s t ds e (takes_above at p m s' up one) both = as_before e s t (let r = parent.take c (family n) p m s.parent in puts_elements c n at r.outputs (with_parent Pin Segment c n open_of r.parent s))
-  comes_of s t ds e (takes_below at p m s' low one heard) both =
+  comes_of : (s t : Core) (ds : Transcript) (e : PlantDeed) → Does c n s e t → single_deed e → Both c n ds s → (d : As) (h : Row Pin) → In h (t.elements d).pending.rows → ComesFrom e s d h
+  comes_of s t ds e (takes_above at p m s' up) one both = as_before e s t (let r = parent.take c (family n) p m s.parent in puts_elements c n at r.outputs (with_parent Pin Segment c n open_of r.parent s))
+  comes_of s t ds e (takes_below at p m s' low heard) one both =
       let r = take c open_of (place n at) (s.current at) p (class_of n p) s.clock m (s.elements at) in
       come e at r.element s t (puts_elements c n at r.outputs (with_element Pin Segment c n open_of at r.element s))
       (λ h i. take_comes at s p m r.outputs (heeds at p m s heard) h (take_from c (s.elements at) (numbers ds s both at) p (place n at) (s.current at) (class_of n p) s.clock m h i))
-  comes_of s t ds e (downs_above at p s' up) both = as_before e s t (let r = parent.downed p s.parent in puts_elements c n at r.outputs (with_parent Pin Segment c n open_of r.parent s))
-  comes_of s t ds e (downs_below at p s' low) both =
+  comes_of s t ds e (downs_above at p s' up) one both = as_before e s t (let r = parent.downed p s.parent in puts_elements c n at r.outputs (with_parent Pin Segment c n open_of r.parent s))
+  comes_of s t ds e (downs_below at p s' low) one both =
       let r = downed p (s.elements at) in
       come e at r.element s t (puts_elements c n at r.outputs (with_element Pin Segment c n open_of at r.element s)) (λ h i. quiet_comes e at s p h (downed_from c (s.elements at) (numbers ds s both at) p p h i))
-  comes_of s t ds e (ups_above at p s' up) both = as_before e s t refl
-  comes_of s t ds e (ups_below at p s' low) both = come e at (upped p (s.elements at)) s t refl (λ h i. inl (h, i, refl, refl))
-  comes_of s t ds e (solves_above k h s' x) both =
+  comes_of s t ds e (ups_above at p s' up) one both = as_before e s t refl
+  comes_of s t ds e (ups_below at p s' low) one both = come e at (upped p (s.elements at)) s t refl (λ h i. inl (h, i, refl, refl))
+  comes_of s t ds e (solves_above k h s' x) one both =
       let r = parent.commit c (k, x.held) x.answer s.parent in
       as_before e s t (puts_elements c n parent_as r.outputs (with_parent Pin Segment c n open_of r.parent s))
-  comes_of s t ds e (solves_below d k h s' x) both =
+  comes_of s t ds e (solves_below d k h s' x) one both =
       let r = commit c (place n d) (k, x.held) x.down s.clock (λ b. b.segment) (job_found x.rows.source_known x.rows.target_known x.rows.best) (s.elements d) in
       come e d r.element s t (puts_elements c n d r.outputs (with_element Pin Segment c n open_of d r.element s))
       (λ g i. quiet_comes e d s the_parent g (commit_from c (s.elements d) (numbers ds s both d) the_parent (place n d) (k, x.held) x.down s.clock x.rows.source_known x.rows.target_known x.rows.best g i))
-  comes_of s t ds e (pops a b rest s') both = stay e s t (λ d. refl)
-  comes_of s t ds e (hands_out i bytes s') both = stay e s t (λ d. refl)
-  comes_of s t ds e (says_own at p o s') both = as_before e s t (puts_elements c n at (record { to = p; message = own_message o } ∷ []) s)
-  comes_of s t ds e (clears_link x s') both = stay e s t (λ d. refl)
-  comes_of s t ds e (expires_at now s') both = stay e s t (λ d. refl)
-  comes_of s t ds e (loads_rows d g s') both = stay e s t (λ d'. refl)
+  comes_of s t ds e (pops a b rest s') one both = stay e s t (λ d. refl)
+  comes_of s t ds e (hands_out i bytes s') one both = stay e s t (λ d. refl)
+  comes_of s t ds e (says_own at p o s') one both = as_before e s t (puts_elements c n at (record { to = p; message = own_message o } ∷ []) s)
+  comes_of s t ds e (clears_link x s') one both = stay e s t (λ d. refl)
+  comes_of s t ds e (expires_at now s') one both = stay e s t (λ d. refl)
+  comes_of s t ds e (loads_rows d g s') one both = stay e s t (λ d'. refl)
 
   pub all_same : (ds : Transcript) (s t : Core) → t.elements ≡ s.elements → t.parent ≡ s.parent → t.current ≡ s.current → All ds s → All ds t
   all_same ds s t elements above current all = (both_same c n ds s t elements above current all.0, ready_same ds s t elements all.1)
 
-  pub does_all : (ds : Transcript) (s t : Core) (e : PlantDeed) → Does c n s e t → All ds s → All (e ∷ ds) t
-  does_all ds s t e does all =
-      let both = does_both c n ds s t e does all.0 in
-      (both, ready_after e ds s t all.0 all.1 both.0 (comes_of s t ds e does all.0))
+  pub does_all : (ds : Transcript) (s t : Core) (e : PlantDeed) → Does c n s e t → single_deed e → All ds s → All (e ∷ ds) t
+  does_all ds s t e does one all =
+      let both = does_both c n ds s t e does one all.0 in
+      (both, ready_after e ds s t all.0 all.1 both.0 (comes_of s t ds e does one all.0))
 
   pub bare_all : AreSingle [] → All [] (events.bare Pin Segment c n open_of first_pin)
   bare_all single = (bare_both c n single, (λ d h none. absurd none))
 
   pub run_ready : (es : List Entry) (s : Plant) → Run c n es s → AreSingle (deeds_of c n es) → (Both c n (deeds_of c n es) s) × AreReady (deeds_of c n es) s
-  run_ready = run_keeps c n All all_same does_all bare_all
+  run_ready = run_singles c n All all_same does_all bare_all

@@ -41,10 +41,9 @@ use Rattle.plant_laws.proofs.Once.Counting as counting
 use Rattle.plant_laws.proofs.Once.Counting.{AnswersAt, one_answer, reply_at, busy_at}
 use Rattle.plant_laws.proofs.Once.CountingUpper as upper
 use Rattle.plant_laws.proofs.Runs.Inboxes.{contains}
-use Rattle.plant_laws.proofs.Once.Opened.{AreSingle, Matches, IsRequest, IsUpperRequest, Holds, holds_same}
+use Rattle.plant_laws.proofs.Once.Opened.{AreSingle, Matches, IsRequest, IsUpperRequest, Holds, holds_same, single_deed}
 use Rattle.plant_laws.proofs.Once.OpenedRuns.{does_hold, bare_holds}
-use Rattle.plant_laws.proofs.Once.DeedByDeed.{Does, takes_above, takes_below, downs_above, downs_below, ups_above, ups_below, solves_above, solves_below, pops, hands_out, says_own, clears_link, expires_at, loads_rows}
-use Rattle.plant_laws.proofs.Once.DeedByDeed.{run_keeps}
+use Rattle.plant_laws.proofs.Once.DeedByDeed.{Does, takes_above, takes_below, downs_above, downs_below, ups_above, ups_below, solves_above, solves_below, pops, hands_out, says_own, clears_link, expires_at, loads_rows, run_singles}
 use Rattle.plant_laws.proofs.Once.OpenTables.{taken, taken_above}
 
 -- an open request with the moment that delivered it
@@ -257,8 +256,8 @@ module _ (c : Codec) (n : NetworkParts) where
   by_message outs Q q x m asks is some own =
       subst (λ (z : Message). Q (messages.PcReq asks) (outs z)) (sym is) (own (subst (λ (z : Message). 1 ≤ answers_to q x (outs z)) is some))
 
-  does_found : (s t : Core) (ds : Transcript) (e : PlantDeed) → Does c n s e t → Holds c n ds s → IsFounded c e ds
-  does_found s t ds e (takes_above at p m s' up one) held =
+  does_found : (s t : Core) (ds : Transcript) (e : PlantDeed) → Does c n s e t → single_deed e → Holds c n ds s → IsFounded c e ds
+  does_found s t ds e (takes_above at p m s' up) one held =
       let r = parent.take c (family n) p m s.parent in
       record {
         found = takes_found at p m r.outputs ds (λ q x some.
@@ -268,7 +267,7 @@ module _ (c : Codec) (n : NetworkParts) where
             by_message (λ (z : Message). (parent.take c (family n) p z s.parent).outputs) (λ (z : Message) (os : List Output). IsAnswer at p z os ds x) p x m asks is some
             (parent_asked ds s held at p (is_parent at up) asks (subst IsSingle is one) x));
       }
-  does_found s t ds e (takes_below at p m s' low one heard) held =
+  does_found s t ds e (takes_below at p m s' low heard) one held =
       let r = take c open_of (place n at) (s.current at) p (class_of n p) s.clock m (s.elements at) in
       record {
         found = takes_found at p m r.outputs ds (λ q x some.
@@ -278,43 +277,43 @@ module _ (c : Codec) (n : NetworkParts) where
             by_message (λ (z : Message). (take c open_of (place n at) (s.current at) p (class_of n p) s.clock z (s.elements at)).outputs) (λ (z : Message) (os : List Output). IsAnswer at p z os ds x) p x m asks is some
             (element_asked ds s held at p low asks (subst IsSingle is one) x));
       }
-  does_found s t ds e (downs_above at p s' up) held =
+  does_found s t ds e (downs_above at p s' up) one held =
       outs_found e at (parent.downed p s.parent).outputs ds (λ d q x. refl) (λ d q x. refl) (λ q x some.
       subst (λ (z : As). IsFoundAt c z q x ds) (is_parent at up)
       (parent_found ds s held q x (let le = upper.lost_answers p s.parent.pending.rows q x in omega (arith, le, some))))
-  does_found s t ds e (downs_below at p s' low) held =
+  does_found s t ds e (downs_below at p s' low) one held =
       outs_found e at (downed p (s.elements at)).outputs ds (λ d q x. refl) (λ d q x. refl) (λ q x some.
       element_found ds s held at q x (let le = counting.lost_answers Pin Segment p (s.elements at).pending.rows q x in omega (arith, le, some)))
-  does_found s t ds e (ups_above at p s' up) held = none_found e ds (λ d q x. refl) (λ d q x. refl)
-  does_found s t ds e (ups_below at p s' low) held = none_found e ds (λ d q x. refl) (λ d q x. refl)
-  does_found s t ds e (solves_above k h s' x) held =
+  does_found s t ds e (ups_above at p s' up) one held = none_found e ds (λ d q x. refl) (λ d q x. refl)
+  does_found s t ds e (ups_below at p s' low) one held = none_found e ds (λ d q x. refl) (λ d q x. refl)
+  does_found s t ds e (solves_above k h s' x) one held =
       outs_found e parent_as (parent.commit c (k, x.held) x.answer s.parent).outputs ds (λ d' q y. refl) (λ d' q y. refl) (λ q y some.
       parent_found ds s held q y
       (let le = upper_commit_counts c (k, x.held) x.answer s.parent q y in
       let le' = row_counts q y s.parent.pending.rows k x.held x.is_held in
       omega (arith, le, le', some)))
-  does_found s t ds e (solves_below d k h s' x) held =
+  does_found s t ds e (solves_below d k h s' x) one held =
       let r = commit c (place n d) (k, x.held) x.down s.clock (λ b. b.segment) (job_found x.rows.source_known x.rows.target_known x.rows.best) (s.elements d) in
       outs_found e d r.outputs ds (λ d' q y. refl) (λ d' q y. refl) (λ q y some.
       element_found ds s held d q y
       (let le = commit_counts Pin Segment c (place n d) (k, x.held) x.down s.clock (λ b. b.segment) x.rows.source_known x.rows.target_known x.rows.best (s.elements d) q y in
       let le' = row_counts q y (s.elements d).pending.rows k x.held x.is_held in
       omega (arith, le, le', some)))
-  does_found s t ds e (pops a b rest s') held = none_found e ds (λ d q x. refl) (λ d q x. refl)
-  does_found s t ds e (hands_out i bytes s') held = none_found e ds (λ d q x. refl) (λ d q x. refl)
-  does_found s t ds e (says_own at p o s') held =
+  does_found s t ds e (pops a b rest s') one held = none_found e ds (λ d q x. refl) (λ d q x. refl)
+  does_found s t ds e (hands_out i bytes s') one held = none_found e ds (λ d q x. refl) (λ d q x. refl)
+  does_found s t ds e (says_own at p o s') one held =
       outs_found e at (record { to = p; message = own_message o } ∷ []) ds (λ d q x. refl) (λ d q x. refl) (λ q x some. absurd (let none = own_none p o q x in omega (arith, none, some)))
-  does_found s t ds e (clears_link x s') held = none_found e ds (λ d q y. refl) (λ d q y. refl)
-  does_found s t ds e (expires_at now s') held = none_found e ds (λ d q x. refl) (λ d q x. refl)
-  does_found s t ds e (loads_rows d g s') held = none_found e ds (λ d' q x. refl) (λ d' q x. refl)
+  does_found s t ds e (clears_link x s') one held = none_found e ds (λ d q y. refl) (λ d q y. refl)
+  does_found s t ds e (expires_at now s') one held = none_found e ds (λ d q x. refl) (λ d q x. refl)
+  does_found s t ds e (loads_rows d g s') one held = none_found e ds (λ d' q x. refl) (λ d' q x. refl)
 
   abbrev Both : Transcript → Core → Type 0
   Both ds s = Holds c n ds s × AreFounded c ds
 
   pub run_founded : (es : List Entry) (s : Plant) → Run c n es s → AreSingle (deeds_of c n es) → AreFounded c (deeds_of c n es)
   run_founded es s run single =
-      (run_keeps c n Both (λ ds s t elements above current both. (holds_same c n ds s t elements above current both.0, both.1))
-      (λ ds s t e does both. (does_hold c n ds s t e does both.0, (does_found s t ds e does both.0, both.1))) (λ z. (bare_holds c n z, tt)) es s run single).1
+      (run_singles c n Both (λ ds s t elements above current both. (holds_same c n ds s t elements above current both.0, both.1))
+      (λ ds s t e does one both. (does_hold c n ds s t e does one both.0, (does_found s t ds e does one both.0, both.1))) (λ z. (bare_holds c n z, tt)) es s run single).1
 
 pub founded_within : (c : Codec) (now : Transcript) → AreFounded c now → (e : PlantDeed) (older : Transcript) → Within (e ∷ older) now → IsFounded c e older
 founded_within c [] all e older w = absurd (let out : e ∷ older ≡ [] = w in cc)

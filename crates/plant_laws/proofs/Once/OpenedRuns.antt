@@ -24,13 +24,12 @@ use Rattle.plant_laws.specs.Transcript.{Transcript, loaded, loads, Keeps, Ends, 
 use Rattle.plant_laws.proofs.Runs.Queues.{same_as_is}
 use Rattle.plant_laws.proofs.Least.Pins.{puts_current}
 use Rattle.plant_laws.proofs.Runs.Rows.{In}
-use Rattle.plant_laws.proofs.Once.DeedByDeed.{Does, takes_above, takes_below, downs_above, downs_below, ups_above, ups_below, solves_above, solves_below, pops, hands_out, says_own, clears_link, expires_at, loads_rows}
-use Rattle.plant_laws.proofs.Once.DeedByDeed.{run_keeps}
+use Rattle.plant_laws.proofs.Once.Opened.{single_deed, AreSingle, IsRequest, IsUpperRequest, Tables, quiet_tables, element_tables, parent_tables, puts_elements, puts_parent, Holds, holds_same, set_pending}
+use Rattle.plant_laws.proofs.Once.DeedByDeed.{Does, takes_above, takes_below, downs_above, downs_below, ups_above, ups_below, solves_above, solves_below, pops, hands_out, says_own, clears_link, expires_at, loads_rows, run_singles}
 use Rattle.plant_laws.proofs.Once.TableSteps.{nobody}
 use Rattle.plant_laws.proofs.Once.ElementSteps as lower
 use Rattle.plant_laws.proofs.Once.ParentSteps as upper
 use Rattle.plant_laws.proofs.Once.Takes.{IsSingle, ended_asked, OpenedBy, take_moves, UpperOpenedBy, upper_moves, own_is}
-use Rattle.plant_laws.proofs.Once.Opened.{AreSingle, IsRequest, IsUpperRequest, Tables, quiet_tables, element_tables, parent_tables, puts_elements, puts_parent, Holds, holds_same, set_pending}
 
 pub lookup_in : {T : Type 0} (number : ℕ) (rows : List (ℕ × Held T)) (held : Held T) → lookup (nat_eq number) rows ≡ Some held → In (number, held) rows
 lookup_in number [] held e = let no : None ≡ Some held = e in absurd (let out : None ≡ Some held = no in cc)
@@ -162,17 +161,17 @@ module _ (c : Codec) (n : NetworkParts) where
       go true same = is ∙ ap (λ z. (s.elements z).pending) (same_as_is at d same)
       go false other = refl
 
-  pub does_hold : (ds : Transcript) (s t : Core) (e : PlantDeed) → Does c n s e t → Good ds s → Good (e ∷ ds) t
-  does_hold ds s t e (takes_above at p m s' up one) held = give_upper at p m s ds up one held
-  does_hold ds s t e (takes_below at p m s' low one heard) held = give_lower at p m s ds low one held
-  does_hold ds s t e (downs_above at p s' up) held =
+  pub does_hold : (ds : Transcript) (s t : Core) (e : PlantDeed) → Does c n s e t → single_deed e → Good ds s → Good (e ∷ ds) t
+  does_hold ds s t e (takes_above at p m s' up) one held = give_upper at p m s ds up one held
+  does_hold ds s t e (takes_below at p m s' low heard) one held = give_lower at p m s ds low one held
+  does_hold ds s t e (downs_above at p s' up) one held =
       let r = parent.downed p s.parent in
       good_puts (e ∷ ds) at r.outputs (with_parent Pin Segment c n open_of r.parent s)
       (parent_tables c n e ds at (λ key. cond (same_peer p key.peer) Ends (ends_if (answers_to key.peer key.id r.outputs))) Never r.parent.pending
       (λ d. (s.elements d).pending) s.parent.pending s.current up (λ d q x. refl) (λ d. refl) (λ d. refl) (λ q x u h. absurd h)
       (ended_asked upper.core Never s.parent.pending r.parent.pending (λ key. same_peer p key.peer) r.outputs
       (λ key. cond (same_peer p key.peer) Ends (ends_if (answers_to key.peer key.id r.outputs))) (upper.downed_step p s.parent held.parent) (λ key. refl)) held)
-  does_hold ds s t e (downs_below at p s' low) held =
+  does_hold ds s t e (downs_below at p s' low) one held =
       let r = downed p (s.elements at) in
       let v = with_element Pin Segment c n open_of at r.element s in
       good_puts (e ∷ ds) at r.outputs v
@@ -180,14 +179,14 @@ module _ (c : Codec) (n : NetworkParts) where
       (λ d. (s.elements d).pending) (λ d. (v.elements d).pending) s.parent.pending s.current low (λ d q x. refl) (λ d. set_pending c n at d r.element s) (λ d. refl) (λ d. refl) (λ q x u h. absurd h)
       (ended_asked lower.core Never (s.elements at).pending r.element.pending (λ key. same_peer p key.peer) r.outputs
       (λ key. cond (same_peer p key.peer) Ends (ends_if (answers_to key.peer key.id r.outputs))) (lower.downed_step Pin Segment p (s.elements at) (held.elements at)) (λ key. refl)) held)
-  does_hold ds s t e (solves_above k h s' x) held =
+  does_hold ds s t e (solves_above k h s' x) one held =
       let r = parent.commit c (k, x.held) x.answer s.parent in
       good_puts (e ∷ ds) parent_as r.outputs (with_parent Pin Segment c n open_of r.parent s)
       (parent_tables c n e ds parent_as (λ key. ends_if (answers_to key.peer key.id r.outputs)) Never r.parent.pending
       (λ d'. (s.elements d').pending) s.parent.pending s.current refl (λ d' q y. refl) (λ d'. refl) (λ d'. refl) (λ q y u h'. absurd h')
       (ended_asked upper.core Never s.parent.pending r.parent.pending nobody r.outputs (λ key. ends_if (answers_to key.peer key.id r.outputs))
       (upper.commit_step c (k, x.held) x.answer s.parent held.parent (lookup_in k s.parent.pending.rows x.held x.is_held)) (λ key. refl)) held)
-  does_hold ds s t e (solves_below d k h s' x) held =
+  does_hold ds s t e (solves_below d k h s' x) one held =
       let r = commit c (place n d) (k, x.held) x.down s.clock (λ b. b.segment) (job_found x.rows.source_known x.rows.target_known x.rows.best) (s.elements d) in
       let v = with_element Pin Segment c n open_of d r.element s in
       good_puts (e ∷ ds) d r.outputs v
@@ -195,14 +194,14 @@ module _ (c : Codec) (n : NetworkParts) where
       (λ d'. (s.elements d').pending) (λ d'. (v.elements d').pending) s.parent.pending s.current x.upper (λ d' q y. refl) (λ d'. set_pending c n d d' r.element s) (λ d'. refl) (λ d'. refl) (λ q y u h'. absurd h')
       (ended_asked lower.core Never (s.elements d).pending r.element.pending nobody r.outputs (λ key. ends_if (answers_to key.peer key.id r.outputs))
       (lower.commit_step Pin Segment c (place n d) (k, x.held) x.down s.clock (λ b. b.segment) x.rows.source_known x.rows.target_known x.rows.best (s.elements d) (held.elements d) (lookup_in k (s.elements d).pending.rows x.held x.is_held)) (λ key. refl)) held)
-  does_hold ds s t e (ups_above at p s' up) held = quiet e ds s t (λ d q x. refl) (λ d. refl) refl refl (λ d. refl) (λ d. refl) held
-  does_hold ds s t e (ups_below at p s' low) held = quiet e ds s t (λ d q x. refl) (still_pending at (upped p (s.elements at)) s refl) refl refl (λ d. refl) (λ d. refl) held
-  does_hold ds s t e (pops a b rest s') held = quiet e ds s t (λ d q x. refl) (λ d. refl) refl refl (λ d. refl) (λ d. refl) held
-  does_hold ds s t e (hands_out i bytes s') held = quiet e ds s t (λ d q x. refl) (λ d. refl) refl refl (λ d. refl) (λ d. refl) held
-  does_hold ds s t e (says_own at p o s') held = good_puts (e ∷ ds) at (record { to = p; message = own_message o } ∷ []) s (quiet e ds s s (λ d q x. refl) (λ d. refl) refl refl (λ d. refl) (λ d. refl) held)
-  does_hold ds s t e (clears_link x s') held = quiet e ds s t (λ d q x. refl) (λ d. refl) refl refl (λ d. refl) (λ d. refl) held
-  does_hold ds s t e (expires_at now s') held = quiet e ds s t (λ d q x. refl) (λ d. refl) refl refl (λ d. refl) (λ d. refl) held
-  does_hold ds s t e (loads_rows d g s') held = loaded_holds d g ds s held
+  does_hold ds s t e (ups_above at p s' up) one held = quiet e ds s t (λ d q x. refl) (λ d. refl) refl refl (λ d. refl) (λ d. refl) held
+  does_hold ds s t e (ups_below at p s' low) one held = quiet e ds s t (λ d q x. refl) (still_pending at (upped p (s.elements at)) s refl) refl refl (λ d. refl) (λ d. refl) held
+  does_hold ds s t e (pops a b rest s') one held = quiet e ds s t (λ d q x. refl) (λ d. refl) refl refl (λ d. refl) (λ d. refl) held
+  does_hold ds s t e (hands_out i bytes s') one held = quiet e ds s t (λ d q x. refl) (λ d. refl) refl refl (λ d. refl) (λ d. refl) held
+  does_hold ds s t e (says_own at p o s') one held = good_puts (e ∷ ds) at (record { to = p; message = own_message o } ∷ []) s (quiet e ds s s (λ d q x. refl) (λ d. refl) refl refl (λ d. refl) (λ d. refl) held)
+  does_hold ds s t e (clears_link x s') one held = quiet e ds s t (λ d q x. refl) (λ d. refl) refl refl (λ d. refl) (λ d. refl) held
+  does_hold ds s t e (expires_at now s') one held = quiet e ds s t (λ d q x. refl) (λ d. refl) refl refl (λ d. refl) (λ d. refl) held
+  does_hold ds s t e (loads_rows d g s') one held = loaded_holds d g ds s held
 
   pub empty_pending : {T : Type 0} (limit : ℕ) → ArePending {T = T} (record { limit = limit; given = 0; rows = [] })
   empty_pending limit = record { few = omega arith; last = omega arith; numbers = omega arith; names = tt }
@@ -221,4 +220,4 @@ module _ (c : Codec) (n : NetworkParts) where
   }
 
   pub run_opened : (es : List Entry) (s : Plant) → Run c n es s → AreSingle (deeds_of c n es) → Good (deeds_of c n es) s
-  run_opened = run_keeps c n Good (holds_same c n) does_hold bare_holds
+  run_opened = run_singles c n Good (holds_same c n) does_hold bare_holds

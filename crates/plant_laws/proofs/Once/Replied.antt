@@ -5,11 +5,11 @@ use Rattle.plant_model.specs.Types.{As, Peer, Message, NetworkParts, Asked, Path
 use Rattle.disclosure.specs.Shown.{open_of}
 use Rattle.plant_model.specs.declared.output.Output.{Output}
 use Rattle.plant_text.specs.Names.{same_as, parent_as}
-use Rattle.plant_model.specs.Names.{the_parent}
+use Rattle.plant_model.specs.Names.{the_parent, has_pair}
 use Rattle.plant_model.specs.Wire.{Codec, Admitted}
-use Rattle.plant_model.specs.Writing.{request_message}
-use Rattle.plant_model.specs.Element.{Stage, Waits, Ready, Element, Row, downed}
-use Rattle.plant_model.specs.Taking.{take}
+use Rattle.plant_model.specs.Writing.{request_message, busy, error_message, reply_message, unavailable}
+use Rattle.plant_model.specs.Element.{Stage, Waits, Ready, Element, Row, downed, each, waits_for, waiting, lost, lost_output, Taken}
+use Rattle.plant_model.specs.Taking.{take, goes_up, sequence_or, take_asked, take_busy, take_cancel, told_busy, cancelled, notice_steps, take_notice, take_failure, take_errors, told_error, take_report}
 use Rattle.plant_model.specs.Solving.{commit, job_found}
 use Rattle.plant_model.specs.Parent as parent
 use Rattle.plant_text.specs.Settings.{class_of}
@@ -20,26 +20,19 @@ use Rattle.plant_model.specs.Plant.{Pin, Segment, Plant, PlantDeed, Entry, Run, 
 use Rattle.plant_laws.specs.Transcript.{Transcript, opened, outputs_at, SentIn}
 use Rattle.plant_laws.proofs.Runs.Queues.{same_as_is}
 use Rattle.plant_laws.proofs.Runs.Rows.{In}
-use Rattle.plant_laws.proofs.Once.Takes.{IsSingle}
-use Rattle.plant_laws.proofs.Once.Opened.{AreSingle}
-use Rattle.plant_laws.proofs.Once.DeedByDeed.{Does, takes_above, takes_below, downs_above, downs_below, ups_above, ups_below, solves_above, solves_below, pops, hands_out, says_own, clears_link, expires_at, loads_rows}
-use Rattle.plant_laws.proofs.Once.DeedByDeed.{run_keeps}
+use Rattle.plant_laws.proofs.Once.Takes.{IsSingle, own_is}
+use Rattle.plant_laws.proofs.Once.Opened.{AreSingle, single_deed}
+use Rattle.plant_laws.proofs.Once.DeedByDeed.{Does, takes_above, takes_below, downs_above, downs_below, ups_above, ups_below, solves_above, solves_below, pops, hands_out, says_own, clears_link, expires_at, loads_rows, run_singles}
 use Rattle.plant_laws.proofs.Numbering.SentOn.{IsRest}
 use Rattle.std.specs.Prelude.{Contains, ◌==◌, map}
 use Rattle.std.proofs.lemmas.List.Elements.{Contains-append_cases}
 use Rattle.pcep_messages.specs.declared.message.Message.TheVariants as messages
 use Rattle.pcep_session.specs.declared.actions.Own.TheVariants as own
-use Rattle.request_table.specs.Pending.{same_peer}
+use Rattle.request_table.specs.Pending.{same_peer, number_of}
 use Rattle.plant_model.specs.declared.output.Lost.{Lost}
-use Rattle.plant_model.specs.Element.{each, waits_for, waiting, lost, lost_output, Taken}
-use Rattle.plant_model.specs.Taking.{goes_up, sequence_or, take_asked, take_busy, take_cancel, told_busy, cancelled, notice_steps, take_notice, take_failure, take_errors, told_error, take_report}
-use Rattle.plant_model.specs.Names.{has_pair}
-use Rattle.plant_model.specs.Writing.{busy, error_message, reply_message, unavailable}
-use Rattle.request_table.specs.Pending.{number_of}
 use Rattle.plant_laws.specs.Pending.{IsTaken}
 use Rattle.border_costs.proofs.Members.{contains_none, contains_head, contains_tail, contains_cases}
 use Rattle.plant_laws.proofs.Runs.Moments.{peer_is, no_more}
-use Rattle.plant_laws.proofs.Once.Takes.{own_is}
 use Rattle.plant_laws.proofs.Once.OpenTables.{taken, found}
 use Rattle.plant_laws.proofs.Least.Given.{OfSolve, OfKey}
 use Rattle.plant_laws.proofs.Least.Spoken.{is_reply}
@@ -247,32 +240,32 @@ module _ (c : Codec) (n : NetworkParts) where
   by_none : (e : PlantDeed) (older : Transcript) → ((d : As) → outputs_at d e ≡ []) → IsReplied e older
   by_none e older is d p r paths real said tells = absurd (contains_none _ (subst (λ (l : List Output). Contains l (record { to = p; message = messages.PcRep (r ∷ []) })) (is d) said))
 
-  does_replied : (s t : Core) (ds : Transcript) (e : PlantDeed) → Does c n s e t → Both c n ds s → IsReplied e ds
-  does_replied s t ds e (takes_above at q m s' up one) both = by_parent e ds at (parent.take c (family n) q m s.parent).outputs (λ d. refl) up
-  does_replied s t ds e (takes_below at q m s' low one heard) both =
+  does_replied : (s t : Core) (ds : Transcript) (e : PlantDeed) → Does c n s e t → single_deed e → Both c n ds s → IsReplied e ds
+  does_replied s t ds e (takes_above at q m s' up) one both = by_parent e ds at (parent.take c (family n) q m s.parent).outputs (λ d. refl) up
+  does_replied s t ds e (takes_below at q m s' low heard) one both =
       let r = take c open_of (place n at) (s.current at) q (class_of n q) s.clock m (s.elements at) in
       by_own e ds at r.outputs (λ d. refl) (λ p r' paths tells said. take_replied at q m s ds one both p r' paths tells said)
-  does_replied s t ds e (downs_above at q s' up) both = by_parent e ds at (parent.downed q s.parent).outputs (λ d. refl) up
-  does_replied s t ds e (downs_below at q s' low) both =
+  does_replied s t ds e (downs_above at q s' up) one both = by_parent e ds at (parent.downed q s.parent).outputs (λ d. refl) up
+  does_replied s t ds e (downs_below at q s' low) one both =
       by_own e ds at (downed q (s.elements at)).outputs (λ d. refl) (λ p r' paths tells said. absurd (lost_silent p r' paths tells (lost q (s.elements at).pending.rows) said))
-  does_replied s t ds e (ups_above at q s' up) both = by_none e ds (λ d. refl)
-  does_replied s t ds e (ups_below at q s' low) both = by_none e ds (λ d. refl)
-  does_replied s t ds e (solves_above k h s' x) both = by_parent e ds parent_as (parent.commit c (k, x.held) x.answer s.parent).outputs (λ d'. refl) (eq-eqb 0 0 refl)
-  does_replied s t ds e (solves_below d k h s' x) both =
+  does_replied s t ds e (ups_above at q s' up) one both = by_none e ds (λ d. refl)
+  does_replied s t ds e (ups_below at q s' low) one both = by_none e ds (λ d. refl)
+  does_replied s t ds e (solves_above k h s' x) one both = by_parent e ds parent_as (parent.commit c (k, x.held) x.answer s.parent).outputs (λ d'. refl) (eq-eqb 0 0 refl)
+  does_replied s t ds e (solves_below d k h s' x) one both =
       let r = commit c (place n d) (k, x.held) x.down s.clock (λ b. b.segment) (job_found x.rows.source_known x.rows.target_known x.rows.best) (s.elements d) in
       by_own e ds d r.outputs (λ d'. refl) (λ p r' paths tells said. inl (record { number = k; outputs = r.outputs; keys = r.element.keys.issued; is = refl }))
-  does_replied s t ds e (pops a b rest s') both = by_none e ds (λ d. refl)
-  does_replied s t ds e (hands_out i bytes s') both = by_none e ds (λ d. refl)
-  does_replied s t ds e (says_own at p o s') both =
+  does_replied s t ds e (pops a b rest s') one both = by_none e ds (λ d. refl)
+  does_replied s t ds e (hands_out i bytes s') one both = by_none e ds (λ d. refl)
+  does_replied s t ds e (says_own at p o s') one both =
       by_own e ds at (record { to = p; message = own_message o } ∷ []) (λ d. refl) (λ q r paths tells said. absurd (other_one q r paths tells p (own_message o) (own_silent o) said))
-  does_replied s t ds e (clears_link x s') both = by_none e ds (λ d. refl)
-  does_replied s t ds e (expires_at now s') both = by_none e ds (λ d. refl)
-  does_replied s t ds e (loads_rows d g s') both = by_none e ds (λ d'. refl)
+  does_replied s t ds e (clears_link x s') one both = by_none e ds (λ d. refl)
+  does_replied s t ds e (expires_at now s') one both = by_none e ds (λ d. refl)
+  does_replied s t ds e (loads_rows d g s') one both = by_none e ds (λ d'. refl)
 
   abbrev Full : Transcript → Core → Type 0
   Full ds s = All c n ds s × AllReplied ds
 
   pub run_replied : (es : List Entry) (s : Plant) → Run c n es s → AreSingle (deeds_of c n es) → AllReplied (deeds_of c n es)
   run_replied es s run single =
-      (run_keeps c n Full (λ ds s t elements above current full. (all_same c n ds s t elements above current full.0, full.1))
-      (λ ds s t e does full. (does_all c n ds s t e does full.0, (does_replied s t ds e does full.0.0, full.1))) (λ z. (bare_all c n z, tt)) es s run single).1
+      (run_singles c n Full (λ ds s t elements above current full. (all_same c n ds s t elements above current full.0, full.1))
+      (λ ds s t e does one full. (does_all c n ds s t e does one full.0, (does_replied s t ds e does one full.0.0, full.1))) (λ z. (bare_all c n z, tt)) es s run single).1

@@ -19,8 +19,7 @@ use Rattle.plant_model.specs.Deeds.{Going, element_of, own_message, with_parent,
 use Rattle.plant_model.specs.Events as events
 use Rattle.plant_model.specs.Plant.{Pin, Segment, first_pin, Plant, Happened, Entry, Run, IsGiven, load_new, ElementSolves, ParentSolves}
 use Rattle.plant_laws.specs.Transcript.{Transcript}
-use Rattle.plant_laws.proofs.Runs.Acts.{Acts, rests, hears, carries, nods, hands, rises, falls, says, clears, expires}
-use Rattle.plant_laws.proofs.Runs.Acts.{Goes, stands, goes_on}
+use Rattle.plant_laws.proofs.Runs.Acts.{Acts, rests, hears, carries, nods, hands, rises, falls, says, clears, expires, Goes, stands, goes_on}
 use Rattle.plant_laws.proofs.Runs.Induction.{run_holds}
 use Rattle.plant_laws.proofs.Runs.Queues.{same_as_is}
 use Rattle.plant_laws.proofs.Least.Pins.{puts_current}

@@ -8,9 +8,8 @@ use Rattle.plant_model.specs.State.{Downs}
 use Rattle.plant_model.specs.Plant.{Pin, Plant, PlantDeed, Entry, Run, deeds_of}
 use Rattle.plant_laws.specs.Causes.{IsLost, AnswersLost, asker_of}
 use Rattle.plant_laws.specs.Transcript.{Transcript, Within}
-use Rattle.plant_laws.proofs.Once.Opened.{AreSingle}
-use Rattle.plant_laws.proofs.Once.DeedByDeed.{Does, takes_above, takes_below, downs_above, downs_below, ups_above, ups_below, solves_above, solves_below, pops, hands_out, says_own, clears_link, expires_at, loads_rows}
-use Rattle.plant_laws.proofs.Once.DeedByDeed.{run_keeps}
+use Rattle.plant_laws.proofs.Once.Opened.{AreSingle, single_deed}
+use Rattle.plant_laws.proofs.Once.DeedByDeed.{Does, takes_above, takes_below, downs_above, downs_below, ups_above, ups_below, solves_above, solves_below, pops, hands_out, says_own, clears_link, expires_at, loads_rows, run_singles}
 use Rattle.plant_laws.proofs.Reasons.LostCauses.{lost_on}
 use Rattle.plant_laws.proofs.Runs.Acts.{says}
 use Rattle.plant_laws.proofs.Runs.Rows.{In}
@@ -33,26 +32,26 @@ module _ (c : Codec) (n : NetworkParts) where
       both.0
   fallen_within (f ∷ ds) all e older (inr within) = fallen_within ds all.1 e older within
 
-  does_fallen : (s t : Plant) (ds : Transcript) (e : PlantDeed) → Does c n s e t → Both c n ds s → IsFallen e ds
-  does_fallen s t ds e (takes_above at p m s' up one) both = tt
-  does_fallen s t ds e (takes_below at p m s' low one heard) both = tt
-  does_fallen s t ds e (downs_above at p s' up) both = λ low. absurd (let clash : true ≡ false = sym up ∙ low in cc)
-  does_fallen s t ds e (downs_below at p s' low) both = λ low'. ((s.elements at).pending.rows, lost_on p (s.elements at).pending.rows, λ h i. both.1.0 at h i)
-  does_fallen s t ds e (ups_above at p s' up) both = tt
-  does_fallen s t ds e (ups_below at p s' low) both = tt
-  does_fallen s t ds e (solves_above k h s' x) both = tt
-  does_fallen s t ds e (solves_below d k h s' x) both = tt
-  does_fallen s t ds e (pops a b rest s') both = tt
-  does_fallen s t ds e (hands_out i bytes s') both = tt
-  does_fallen s t ds e (says_own at p o s') both = tt
-  does_fallen s t ds e (clears_link x s') both = tt
-  does_fallen s t ds e (expires_at now s') both = tt
-  does_fallen s t ds e (loads_rows d g s') both = tt
+  does_fallen : (s t : Plant) (ds : Transcript) (e : PlantDeed) → Does c n s e t → single_deed e → Both c n ds s → IsFallen e ds
+  does_fallen s t ds e (takes_above at p m s' up) one both = tt
+  does_fallen s t ds e (takes_below at p m s' low heard) one both = tt
+  does_fallen s t ds e (downs_above at p s' up) one both = λ low. absurd (let clash : true ≡ false = sym up ∙ low in cc)
+  does_fallen s t ds e (downs_below at p s' low) one both = λ low'. ((s.elements at).pending.rows, lost_on p (s.elements at).pending.rows, λ h i. both.1.0 at h i)
+  does_fallen s t ds e (ups_above at p s' up) one both = tt
+  does_fallen s t ds e (ups_below at p s' low) one both = tt
+  does_fallen s t ds e (solves_above k h s' x) one both = tt
+  does_fallen s t ds e (solves_below d k h s' x) one both = tt
+  does_fallen s t ds e (pops a b rest s') one both = tt
+  does_fallen s t ds e (hands_out i bytes s') one both = tt
+  does_fallen s t ds e (says_own at p o s') one both = tt
+  does_fallen s t ds e (clears_link x s') one both = tt
+  does_fallen s t ds e (expires_at now s') one both = tt
+  does_fallen s t ds e (loads_rows d g s') one both = tt
 
   abbrev All : Transcript → Plant → Type 0
   All ds s = Both c n ds s × AreFallen ds
 
   pub run_fallen : (es : List Entry) (s : Plant) → Run c n es s → AreSingle (deeds_of c n es) → AreFallen (deeds_of c n es)
   run_fallen es s run single =
-      (run_keeps c n All (λ ds s t elements above current all. (both_same c n ds s t elements above current all.0, all.1))
-      (λ ds s t e does all. (does_both c n ds s t e does all.0, (does_fallen s t ds e does all.0, all.1))) (λ z. (bare_both c n z, tt)) es s run single).1
+      (run_singles c n All (λ ds s t elements above current all. (both_same c n ds s t elements above current all.0, all.1))
+      (λ ds s t e does one all. (does_both c n ds s t e does one all.0, (does_fallen s t ds e does one all.0, all.1))) (λ z. (bare_both c n z, tt)) es s run single).1

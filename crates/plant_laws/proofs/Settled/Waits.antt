@@ -19,7 +19,7 @@ use Rattle.plant_text.specs.Settings.{class_of}
 use Rattle.plant_model.specs.Settings.{place, family}
 use Rattle.plant_model.specs.State.{State}
 use Rattle.plant_model.specs.Deeds.{own_message, with_parent, with_element}
-use Rattle.plant_model.specs.Plant.{Pin, Segment, Plant, PlantDeed, Entry, Run, deeds_of}
+use Rattle.plant_model.specs.Plant.{Pin, Segment, Plant, PlantDeed, Entry, Run, deeds_of, first_pin}
 use Rattle.plant_laws.specs.Transcript.{Transcript, Effect, Keeps, Ends, Begins, effect, after, opened, outputs_at, SentIn}
 use Rattle.plant_laws.proofs.Runs.Queues.{same_as_is}
 use Rattle.plant_laws.proofs.Runs.Seen.{seen_none}
@@ -29,12 +29,10 @@ use Rattle.plant_laws.specs.Runs.{InRuns}
 use Rattle.plant_laws.specs.Waiting.{WaitsAreSentIn, WaitsApartIn, wait_alike}
 use Rattle.plant_laws.proofs.Runs.Inboxes.{contains}
 use Rattle.plant_laws.proofs.Once.ElementSteps as lower
-use Rattle.plant_laws.proofs.Once.Opened.{Matches, AreSingle, IsRequest, Holds, holds_same, puts_elements, set_pending}
+use Rattle.plant_laws.proofs.Once.Opened.{Matches, AreSingle, IsRequest, Holds, holds_same, puts_elements, set_pending, single_deed}
 use Rattle.plant_laws.proofs.Once.OpenedRuns.{does_hold, bare_holds}
-use Rattle.plant_laws.proofs.Once.DeedByDeed.{Does, takes_above, takes_below, downs_above, downs_below, ups_above, ups_below, solves_above, solves_below, pops, hands_out, says_own, clears_link, expires_at, loads_rows}
-use Rattle.plant_laws.proofs.Once.DeedByDeed.{run_keeps}
+use Rattle.plant_laws.proofs.Once.DeedByDeed.{Does, takes_above, takes_below, downs_above, downs_below, ups_above, ups_below, solves_above, solves_below, pops, hands_out, says_own, clears_link, expires_at, loads_rows, run_singles}
 use Rattle.plant_model.specs.Events as events
-use Rattle.plant_model.specs.Plant.{first_pin}
 use Rattle.plant_laws.proofs.Once.OpenTables.{row_matched}
 use Rattle.plant_laws.proofs.Least.Subsides.{IsOlder, commit_subs, downed_subs}
 use Rattle.plant_laws.proofs.Numbering.SentOn.{IsRest, IsSentIn, take_news, same_id_back}
@@ -206,9 +204,9 @@ module _ (c : Codec) (n : NetworkParts) where
   as_before : (e : PlantDeed) (s t : Core) → t.elements ≡ s.elements → (d : As) → Rows_come e s t d
   as_before e s t same = stay e s t (λ d. ap (λ (f : As → Element Pin Segment). (f d).pending) same)
 
-  comes_of : (s t : Core) (ds : Transcript) (e : PlantDeed) → Does c n s e t → Holds c n ds s → (d : As) → Rows_come e s t d
-  comes_of s t ds e (takes_above at p m s' up one) held = as_before e s t (let r = parent.take c (family n) p m s.parent in puts_elements c n at r.outputs (with_parent Pin Segment c n open_of r.parent s))
-  comes_of s t ds e (takes_below at p m s' low one heard) held =
+  comes_of : (s t : Core) (ds : Transcript) (e : PlantDeed) → Does c n s e t → single_deed e → Holds c n ds s → (d : As) → Rows_come e s t d
+  comes_of s t ds e (takes_above at p m s' up) one held = as_before e s t (let r = parent.take c (family n) p m s.parent in puts_elements c n at r.outputs (with_parent Pin Segment c n open_of r.parent s))
+  comes_of s t ds e (takes_below at p m s' low heard) one held =
       let r = take c open_of (place n at) (s.current at) p (class_of n p) s.clock m (s.elements at) in
       let news = take_news Pin Segment c open_of (place n at) (s.current at) p (class_of n p) s.clock (s.elements at) (few_rows ds s held at) m one in
       come e at r.element s t (puts_elements c n at r.outputs (with_element Pin Segment c n open_of at r.element s)) (
@@ -218,39 +216,39 @@ module _ (c : Codec) (n : NetworkParts) where
           | inr new ↦ inr (new.0, (new.1.0, subst (λ (os : List Output). IsSentIn (place n at).routes os h.1.item h.1.item.stage) (sym (outputs_own at r.outputs)) new.1.1, new.1.2))
         ]),
       )
-  comes_of s t ds e (downs_above at p s' up) held = as_before e s t (let r = parent.downed p s.parent in puts_elements c n at r.outputs (with_parent Pin Segment c n open_of r.parent s))
-  comes_of s t ds e (downs_below at p s' low) held =
+  comes_of s t ds e (downs_above at p s' up) one held = as_before e s t (let r = parent.downed p s.parent in puts_elements c n at r.outputs (with_parent Pin Segment c n open_of r.parent s))
+  comes_of s t ds e (downs_below at p s' low) one held =
       let r = downed p (s.elements at) in
       come e at r.element s t (puts_elements c n at r.outputs (with_element Pin Segment c n open_of at r.element s)) (key_of p 0, (λ h i. inl (downed_subs Pin Segment p (s.elements at) h i)))
-  comes_of s t ds e (ups_above at p s' up) held = as_before e s t refl
-  comes_of s t ds e (ups_below at p s' low) held = come e at (upped p (s.elements at)) s t refl (key_of p 0, (λ h i. inl (h, i, refl, inl refl)))
-  comes_of s t ds e (solves_above k h s' x) held =
+  comes_of s t ds e (ups_above at p s' up) one held = as_before e s t refl
+  comes_of s t ds e (ups_below at p s' low) one held = come e at (upped p (s.elements at)) s t refl (key_of p 0, (λ h i. inl (h, i, refl, inl refl)))
+  comes_of s t ds e (solves_above k h s' x) one held =
       let r = parent.commit c (k, x.held) x.answer s.parent in
       as_before e s t (puts_elements c n parent_as r.outputs (with_parent Pin Segment c n open_of r.parent s))
-  comes_of s t ds e (solves_below d k h s' x) held =
+  comes_of s t ds e (solves_below d k h s' x) one held =
       let r = commit c (place n d) (k, x.held) x.down s.clock (λ b. b.segment) (job_found x.rows.source_known x.rows.target_known x.rows.best) (s.elements d) in
       come e d r.element s t (puts_elements c n d r.outputs (with_element Pin Segment c n open_of d r.element s))
       (x.held.key, (λ g i. inl (commit_subs Pin Segment c (place n d) (k, x.held) x.down s.clock (λ b. b.segment) x.rows.source_known x.rows.target_known x.rows.best (s.elements d) g i)))
-  comes_of s t ds e (pops a b rest s') held = stay e s t (λ d. refl)
-  comes_of s t ds e (hands_out i bytes s') held = stay e s t (λ d. refl)
-  comes_of s t ds e (says_own at p o s') held = as_before e s t (puts_elements c n at (record { to = p; message = own_message o } ∷ []) s)
-  comes_of s t ds e (clears_link x s') held = stay e s t (λ d. refl)
-  comes_of s t ds e (expires_at now s') held = stay e s t (λ d. refl)
-  comes_of s t ds e (loads_rows d g s') held = stay e s t (λ d'. refl)
+  comes_of s t ds e (pops a b rest s') one held = stay e s t (λ d. refl)
+  comes_of s t ds e (hands_out i bytes s') one held = stay e s t (λ d. refl)
+  comes_of s t ds e (says_own at p o s') one held = as_before e s t (puts_elements c n at (record { to = p; message = own_message o } ∷ []) s)
+  comes_of s t ds e (clears_link x s') one held = stay e s t (λ d. refl)
+  comes_of s t ds e (expires_at now s') one held = stay e s t (λ d. refl)
+  comes_of s t ds e (loads_rows d g s') one held = stay e s t (λ d'. refl)
 
   pub both_same : (ds : Transcript) (s t : Core) → t.elements ≡ s.elements → t.parent ≡ s.parent → t.current ≡ s.current → Both ds s → Both ds t
   both_same ds s t elements above current both = (holds_same c n ds s t elements above current both.0, sent_same ds s t elements both.1)
 
-  pub does_both : (ds : Transcript) (s t : Core) (e : PlantDeed) → Does c n s e t → Both ds s → Both (e ∷ ds) t
-  does_both ds s t e does both =
-      let next = does_hold c n ds s t e does both.0 in
-      (next, sent_after e ds s t both.0 both.1 next (comes_of s t ds e does both.0))
+  pub does_both : (ds : Transcript) (s t : Core) (e : PlantDeed) → Does c n s e t → single_deed e → Both ds s → Both (e ∷ ds) t
+  does_both ds s t e does one both =
+      let next = does_hold c n ds s t e does one both.0 in
+      (next, sent_after e ds s t both.0 both.1 next (comes_of s t ds e does one both.0))
 
   pub bare_both : AreSingle [] → Both [] (events.bare Pin Segment c n open_of first_pin)
   bare_both single = (bare_holds c n single, ((λ d h none. absurd none), (λ d h g none. absurd none)))
 
   pub run_sent_on : (es : List Entry) (s : Plant) → Run c n es s → AreSingle (deeds_of c n es) → AreSentOn (deeds_of c n es) s
-  run_sent_on es s run single = (run_keeps c n Both both_same does_both bare_both es s run single).1
+  run_sent_on es s run single = (run_singles c n Both both_same does_both bare_both es s run single).1
 
 pub waits_are_sent : InRuns WaitsAreSentIn
 waits_are_sent c codec n net es s run d h i b y is =
