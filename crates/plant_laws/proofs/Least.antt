@@ -23,7 +23,6 @@ pub mod Gathers
 pub mod ParentRows
 pub mod GatheredRuns
 pub mod OfRun
-pub mod StagesKept
 pub mod Readied
 pub mod ReadyRows
 pub mod EndsInside

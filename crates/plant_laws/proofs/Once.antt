@@ -7,6 +7,7 @@ pub mod ElementAsks
 pub mod ParentAsks
 pub mod Takes
 pub mod Opened
+pub mod DeedByDeed
 pub mod OpenedRuns
 pub mod OpenTables
 pub mod Handing

@@ -13,6 +13,10 @@ pub mod Classes
 pub mod Reading
 pub mod Seen
 pub mod Rows
+pub mod TablesKept
+pub mod TakesKept
+pub mod ParentTakesKept
+pub mod ElementsKept
 pub mod Inboxes
 pub mod Readings
 pub mod Sessions

@@ -159,7 +159,7 @@ module _ (c : Codec) (n : NetworkParts) where
             is = λ f. refl;
             clock = puts_clock c n at r.outputs v;
             keys = λ d. ap (λ (f : As → Element Pin Segment). (f d).keys) (puts_elements c n at r.outputs v)
-                ∙ keys_set c n at d r.element s (take_keys Pin Segment (s.elements at).keys (s.current at) p (class_of n p) c open_of (place n at) s.clock m (s.elements at) refl) (same_as at d) refl;
+                ∙ keys_set c n at d r.element s (take_keys (s.current at) p (class_of n p) c open_of (place n at) s.clock m (s.elements at)) (same_as at d) refl;
           }
 
   abbrev pub going : Happened → Going Pin Segment

@@ -1,49 +1,16 @@
 -- What a change of a table of requests leaves of those that can be solved.
-use Rattle.std.proofs.Common.{◌≡◌, ◌≢◌, ◌⊎◌, ◌+◌, ◌≤◌, ◌<◌, ℕ, Bool, true, false, cond, Option, Some, None, List, [], ◌∷◌, ◌++◌, nat_eq, arith, inl, inr, refl, sym, ap, subst}
+use Rattle.std.proofs.Common.{◌≡◌, ◌≢◌, ◌+◌, ◌≤◌, ℕ, Bool, true, false, cond, Option, Some, None, List, [], ◌∷◌, ◌++◌, nat_eq, arith, inl, inr, refl, sym, ap, subst}
 use Rattle.std.specs.Prelude.{filter}
 use Rattle.std.specs.Map.{lookup, remove_entry}
 use Rattle.std.proofs.lemmas.Bool.{cases_Bool, eqb-true, eq-eqb, ne_eqb}
 use Rattle.plant_model.specs.Types.{Peer, Held}
 use Rattle.request_table.specs.Pending.{Pending, NumbersRise, opened_of, closed_of, key_of}
 use Rattle.request_table.specs.Lends.{with_item, written_of}
-use Rattle.request_table.proofs.PendingLemmas.{NumbersRise-last}
+use Rattle.request_table.proofs.PendingLemmas.{NumbersRise-last, NumbersRise-append, NumbersRise-remove}
+use Rattle.plant_laws.proofs.Runs.Rows.{In, NumbersRise-filter, rises_above}
+use Rattle.plant_laws.proofs.Runs.TablesKept.{NumbersRise-with_item}
 use Rattle.plant_laws.specs.Lasting.{IsInOrder, held_at, HasGiven, LastsAs, RequestsLast}
 use Rattle.plant_laws.specs.Onward.{still_as, requests_still, requests_on}
-
--- ---- the numbers of rows after a change
-
-module _ {T : Type 0} where
-  rise_lower : (low lower high : ℕ) (rows : List (ℕ × Held T)) → lower ≤ low → NumbersRise low rows high → NumbersRise lower rows high
-  rise_lower low lower high [] le h = omega (arith, le, h)
-  rise_lower low lower high (x ∷ xs) le h = (omega (arith, le, h.0), h.1)
-
-  rise_append : (low high : ℕ) (rows : List (ℕ × Held T)) (held : Held T) → NumbersRise low rows high → NumbersRise low (rows ++ (high + 1, held) ∷ []) (high + 1)
-  rise_append low high [] held h = (omega (arith, h), omega arith)
-  rise_append low high (x ∷ xs) held h = (h.0, rise_append x.0 high xs held h.1)
-
-  rise_filter : (test : ℕ × Held T → Bool) (low high : ℕ) (rows : List (ℕ × Held T)) → NumbersRise low rows high → NumbersRise low (filter test rows) high
-  rise_filter test low high [] h = h
-  rise_filter test low high (x ∷ xs) h = go (test x) (rise_filter test x.0 high xs h.1)
-    where
-      go : (b : Bool) → NumbersRise x.0 (filter test xs) high → NumbersRise low (cond b (x ∷ filter test xs) (filter test xs)) high
-      go true k = (h.0, k)
-      go false k = rise_lower x.0 low high (filter test xs) (omega (arith, h.0)) k
-
-  rise_removed : (n low high : ℕ) (rows : List (ℕ × Held T)) → NumbersRise low rows high → NumbersRise low (remove_entry (nat_eq n) rows) high
-  rise_removed n low high [] h = h
-  rise_removed n low high (x ∷ xs) h = go (nat_eq n x.0) (rise_removed n x.0 high xs h.1)
-    where
-      go : (b : Bool) → NumbersRise x.0 (remove_entry (nat_eq n) xs) high → NumbersRise low (cond b xs (x ∷ remove_entry (nat_eq n) xs)) high
-      go true k = rise_lower x.0 low high xs (omega (arith, h.0)) h.1
-      go false k = (h.0, k)
-
-  rise_written : (n : ℕ) (i : T) (low high : ℕ) (rows : List (ℕ × Held T)) → NumbersRise low rows high → NumbersRise low (with_item n i rows) high
-  rise_written n i low high [] h = h
-  rise_written n i low high (x ∷ xs) h = go (nat_eq n x.0) (rise_written n i x.0 high xs h.1)
-    where
-      go : (b : Bool) → NumbersRise x.0 (with_item n i xs) high → NumbersRise low (cond b ((x.0, record x.1 { item = i }) ∷ xs) (x ∷ with_item n i xs)) high
-      go true k = (h.0, h.1)
-      go false k = (h.0, k)
 
 -- ---- the request of a number
 
@@ -87,19 +54,10 @@ module _ {T : Type 0} (ready : T → Bool) where
             ])
       ]
 
-  abbrev pub In : ℕ × Held T → List (ℕ × Held T) → Type 0
-  In h [] = ⊥
-  In h (x ∷ xs) = (x ≡ h) ⊎ In h xs
-
-  later : (h : ℕ × Held T) (low high : ℕ) (xs : List (ℕ × Held T)) → NumbersRise low xs high → In h xs → low < h.0
-  later h low high [] rises is = absurd is
-  later h low high (x ∷ xs) rises (inl same) = subst (λ (z : ℕ × Held T). low < z.0) same rises.0
-  later h low high (x ∷ xs) rises (inr is) = let more = later h x.0 high xs rises.1 is in omega (arith, rises.0, more)
-
   -- a row that cannot be solved yet is the first of its number
   waits_first : (h x : ℕ × Held T) (high : ℕ) (xs : List (ℕ × Held T)) → NumbersRise x.0 xs high → In h (x ∷ xs) → nat_eq h.0 x.0 ≡ true → ready h.1.item ≡ false → ready x.1.item ≡ false
   waits_first h x high xs rises (inl same) hit waits = subst (λ (z : ℕ × Held T). ready z.1.item ≡ false) (sym same) waits
-  waits_first h x high xs rises (inr is) hit waits = absurd (let more = later h x.0 high xs rises is in omega (arith, more, eqb-true h.0 x.0 hit))
+  waits_first h x high xs rises (inr is) hit waits = absurd (let more = rises_above x.0 high xs h rises is in omega (arith, more, eqb-true h.0 x.0 hit))
 
   in_rest : (h x : ℕ × Held T) (xs : List (ℕ × Held T)) → In h (x ∷ xs) → nat_eq h.0 x.0 ≡ false → In h xs
   in_rest h x xs (inl same) miss = absurd (let hit : nat_eq h.0 x.0 ≡ true = eq-eqb h.0 x.0 (ap (λ (z : ℕ × Held T). z.0) (sym same)) in never (nat_eq h.0 x.0) miss hit)
@@ -177,25 +135,25 @@ module _ {T : Type 0} (ready : T → Bool) where
 
   pub closed : (n : ℕ) (p : Pending T) → Becomes p (closed_of p n)
   closed n p order = record {
-    order = rise_removed n 0 p.given p.rows order;
+    order = NumbersRise-remove (nat_eq n) 0 p.given p.rows order;
     last = λ m below. (below, closed_lasts m n 0 p.given p.rows order);
   }
 
   pub opened : (peer : Peer) (id : ℕ) (i : T) (p : Pending T) → Becomes p (opened_of p peer id i)
   opened peer id i p order = record {
-    order = rise_append 0 p.given p.rows (record { key = key_of peer id; item = i }) order;
+    order = NumbersRise-append 0 p.given (p.given + 1) p.rows (record { key = key_of peer id; item = i }) order (omega arith);
     last = λ n below. (omega (arith, below), opened_lasts n p.rows (p.given + 1) (record { key = key_of peer id; item = i }) (λ same. omega (arith, below, same)));
   }
 
   pub filtered : (test : ℕ × Held T → Bool) (p : Pending T) → Becomes p (record p { rows = filter test p.rows })
   filtered test p order = record {
-    order = rise_filter test 0 p.given p.rows order;
+    order = NumbersRise-filter test 0 p.given p.rows order;
     last = λ n below. (below, kept_lasts test n 0 p.given p.rows order);
   }
 
   pub written : (h : ℕ × Held T) (i : T) (p : Pending T) → In h p.rows → ready h.1.item ≡ false → Becomes p (written_of p h.0 i)
   written h i p is waits order = record {
-    order = rise_written h.0 i 0 p.given p.rows order;
+    order = NumbersRise-with_item h.0 i 0 p.given p.rows order;
     last = λ n below. (below, written_lasts n h i 0 p.given p.rows order is waits);
   }
 

@@ -1,9 +1,8 @@
 -- In every state of a run, each request that is pending at the parent has gathered the replies of its children to what was sent to them
 -- in the moment that opened it.
-use Rattle.std.proofs.Common.{◌≡◌, ◌⊎◌, ℕ, Bool, true, false, cond, length, Option, Some, None, List, [], ◌∷◌, ◌++◌, inl, inr, sym, subst, refl, arith}
+use Rattle.std.proofs.Common.{◌≡◌, ◌⊎◌, ℕ, Bool, true, false, cond, length, Option, Some, None, List, [], ◌∷◌, inl, inr, sym, subst, refl, arith}
 use Rattle.std.specs.Prelude.{Contains}
-use Rattle.plant_model.specs.Types.{As, Peer, Outside, Inner, Message, Reply, Wanted, Wish, Held, NetworkParts}
-use Rattle.te_links.specs.Rows.{Rows}
+use Rattle.plant_model.specs.Types.{As, Peer, Inner, Message, Reply, Wanted, Wish, Held, NetworkParts}
 use Rattle.disclosure.specs.Shown.{open_of}
 use Rattle.pcep_messages.specs.Spelling.{IsWritten}
 use Rattle.pcep_messages.specs.declared.message.Message.TheVariants as messages
@@ -11,39 +10,39 @@ use Rattle.pcep_messages.specs.declared.message.Wish.TheVariants.{Path, Expand}
 use Rattle.request_table.specs.Pending.{key_of, number_of, number_among, is_full}
 use Rattle.plant_model.specs.declared.output.Output.{Output}
 use Rattle.plant_model.specs.declared.upper.ChildRow.{ChildRow}
-use Rattle.plant_text.specs.Names.{same_as, parent_as}
+use Rattle.plant_text.specs.Names.{parent_as}
 use Rattle.plant_model.specs.Wire.{Codec, Checked, Admitted, Wrong}
-use Rattle.plant_model.specs.Element.{upped, downed}
+use Rattle.plant_model.specs.Element.{downed}
 use Rattle.plant_model.specs.Taking.{take}
 use Rattle.plant_model.specs.Solving.{commit, job_found}
 use Rattle.plant_model.specs.Parent as parent
 use Rattle.plant_model.specs.Parent.{Asking, AskingRow, Parent, ParentTaken, Errand, Wait, errands, all_waits, all_up, is_ready}
 use Rattle.plant_text.specs.Settings.{class_of}
 use Rattle.plant_model.specs.Settings.{place, family}
-use Rattle.plant_model.specs.State.{State, Loads, Pops, Takes, Says, Ups, Downs, Clears, Solves, Expires, Hands}
-use Rattle.plant_model.specs.Deeds.{Going, element_of, own_message, with_parent, with_element, puts, give, rise, fall}
-use Rattle.plant_model.specs.Plant.{Pin, Segment, Plant, PlantDeed, Happened, Entry, Run, deeds_of, load_new, ElementSolves, ParentSolves}
+use Rattle.plant_model.specs.State.{State, Takes}
+use Rattle.plant_model.specs.Deeds.{own_message, with_parent, with_element, rise}
+use Rattle.plant_model.specs.Plant.{Pin, Segment, Plant, PlantDeed, Entry, Run, deeds_of}
 use Rattle.plant_model.specs.Laws.{IsCodec}
 use Rattle.plant_laws.specs.Transcript.{Transcript, Within, Standing, effect, opened}
 use Rattle.plant_laws.specs.Sending.{AllSent}
 use Rattle.plant_laws.specs.About.{IsGathered, HasReplied, told_in}
-use Rattle.plant_laws.proofs.Runs.Acts.{popped, Acts, rests, hears, carries, nods, hands, rises, falls, says, clears, expires}
 use Rattle.plant_laws.proofs.Runs.Decompose.{nil_right}
 use Rattle.plant_laws.proofs.Runs.Queues.{same_as_is}
-use Rattle.plant_laws.proofs.Runs.Induction.{run_holds}
 use Rattle.plant_laws.proofs.Runs.Seen.{seen_none}
 use Rattle.plant_laws.proofs.Runs.Rows.{In, in_of, seen_in, in_append}
 use Rattle.plant_laws.proofs.WrittenForm.ReadBack.{run_single, standing_sent}
 use Rattle.plant_laws.proofs.Once.ParentSteps as upper
 use Rattle.plant_laws.proofs.Once.Takes.{IsSingle}
-use Rattle.plant_laws.proofs.Once.Opened.{Matches, AreSingle, IsUpperRequest, Holds, holds_same, puts_parent}
-use Rattle.plant_laws.proofs.Once.OpenedRuns.{act_holds, load_holds, solve_holds, upper_holds, give_single, fall_single, rise_single, quiet, bare_holds}
+use Rattle.plant_laws.proofs.Once.Opened.{Matches, AreSingle, IsUpperRequest, Holds, holds_same, puts_parent, single_deed}
+use Rattle.plant_laws.proofs.Once.OpenedRuns.{does_hold, bare_holds}
+use Rattle.plant_laws.proofs.Once.DeedByDeed.{Does, takes_above, takes_below, downs_above, downs_below, ups_above, ups_below, solves_above, solves_below, pops, hands_out, says_own, clears_link, expires_at, loads_rows, run_singles}
 use Rattle.plant_laws.proofs.Once.OpenTables.{row_matched}
 use Rattle.plant_laws.proofs.Settled.Waits.{still, begun}
 use Rattle.plant_laws.proofs.Runs.Readings.{messages_are_read}
 use Rattle.plant_laws.proofs.Least.ReadyRows.{IsOneReply, sent_one, sent_within, the_one}
 use Rattle.plant_laws.proofs.Least.FromElement.{within_tail}
 use Rattle.plant_laws.proofs.Least.ParentRows as rows
+use Rattle.plant_laws.proofs.Runs.TablesKept.{in_rows, rows_in}
 use Rattle.plant_laws.proofs.Least.Gathers.{Took, IsFilled, filled_later, filled_more, filled_new}
 
 -- a request of the parent that is ready
@@ -115,9 +114,9 @@ module _ (c : Codec) (n : NetworkParts) where
 
       replies_come : (h : AskingRow) → In h (parent.each (parent.take_reply c q) rs s.parent).parent.pending.rows → Q h.1
       replies_come h i =
-          rows.in_rows Q c q rs made h (parent.each (parent.take_reply c q) rs s.parent).parent.pending.rows
-          (rows.replies_after Q c q rs made rs (λ r j. j) s.parent
-          (record { rise = held.parent.numbers; rows = rows.rows_in Q c q rs made s.parent.pending.rows (stays (Takes parent_as q (messages.PcRep rs) os) ds s old) })).rows i
+          in_rows Q h (parent.each (parent.take_reply c q) rs s.parent).parent.pending.rows
+          (rows.replies_keep Q c q rs made s.parent
+          (record { rise = held.parent.numbers; rows = rows_in Q s.parent.pending.rows (stays (Takes parent_as q (messages.PcRep rs) os) ds s old) })).rows i
 
     -- all but requests and replies
     module _ (e : PlantDeed) where
@@ -125,22 +124,22 @@ module _ (c : Codec) (n : NetworkParts) where
       none_made h r none waits x = absurd none
 
       begins : rows.Holds (Comes e ds s) c q [] none_made s.parent
-      begins = record { rise = held.parent.numbers; rows = rows.rows_in (Comes e ds s) c q [] none_made s.parent.pending.rows (stays e ds s old) }
+      begins = record { rise = held.parent.numbers; rows = rows_in (Comes e ds s) s.parent.pending.rows (stays e ds s old) }
 
       others : (k : Parent) → rows.Holds (Comes e ds s) c q [] none_made k → (h : AskingRow) → In h k.pending.rows → Comes e ds s h.1
-      others k holds h i = rows.in_rows (Comes e ds s) c q [] none_made h k.pending.rows holds.rows i
+      others k holds h i = in_rows (Comes e ds s) h k.pending.rows holds.rows i
 
       pub notices_come : (notices : _) (h : AskingRow) → In h (parent.each (parent.take_notice q) notices s.parent).parent.pending.rows → Comes e ds s h.1
-      notices_come notices = others (parent.each (parent.take_notice q) notices s.parent).parent (rows.notices_after (Comes e ds s) c q [] none_made notices s.parent begins)
+      notices_come notices = others (parent.each (parent.take_notice q) notices s.parent).parent (rows.notices_keep (Comes e ds s) c q [] none_made notices s.parent begins)
 
       pub reports_come : (reports : _) (h : AskingRow) → In h (parent.each (parent.take_report q) reports s.parent).parent.pending.rows → Comes e ds s h.1
-      reports_come reports = others (parent.each (parent.take_report q) reports s.parent).parent (rows.reports_after (Comes e ds s) c q [] none_made reports s.parent begins)
+      reports_come reports = others (parent.each (parent.take_report q) reports s.parent).parent (rows.reports_keep (Comes e ds s) c q [] none_made reports s.parent begins)
 
       pub downed_come : (p : Peer) (h : AskingRow) → In h (parent.downed p s.parent).parent.pending.rows → Comes e ds s h.1
-      downed_come p = others (parent.downed p s.parent).parent (rows.downed_after (Comes e ds s) c q [] none_made p s.parent begins)
+      downed_come p = others (parent.downed p s.parent).parent (rows.downed_keeps (Comes e ds s) c q [] none_made p s.parent begins)
 
       pub commit_come : (row : AskingRow) (a : _) (h : AskingRow) → In h (parent.commit c row a s.parent).parent.pending.rows → Comes e ds s h.1
-      commit_come row a = others (parent.commit c row a s.parent).parent (rows.commit_after (Comes e ds s) c q [] none_made row a s.parent begins)
+      commit_come row a = others (parent.commit c row a s.parent).parent (rows.commit_keeps (Comes e ds s) c q [] none_made row a s.parent begins)
 
     -- a request
     module _ (m : Message) where
@@ -200,125 +199,43 @@ module _ (c : Codec) (n : NetworkParts) where
   abbrev Both : Transcript → Core → Type 0
   Both ds s = Holds c n ds s × AreGathered ds s
 
-  split : (ds : Transcript) (x : Bool) (g h : Going Pin Segment) → (x ≡ true → Holds c n (g.deeds ++ ds) g.state → AreGathered (g.deeds ++ ds) g.state) → (x ≡ false → Holds c n (h.deeds ++ ds) h.state → AreGathered (h.deeds ++ ds) h.state) →
-      Holds c n ((cond x g h).deeds ++ ds) (cond x g h).state → AreGathered ((cond x g h).deeds ++ ds) (cond x g h).state
-  split ds true g h up low = up refl
-  split ds false g h up low = low refl
-
-  give_gathers : (at : As) (p : Peer) (m : Message) (s : Core) (es ds : Transcript) → IsSingle m → Both (es ++ ds) s →
-      (let g = give Pin Segment c n open_of at p m (record { state = s; deeds = es }) in Holds c n (g.deeds ++ ds) g.state → AreGathered (g.deeds ++ ds) g.state)
-  give_gathers at p m s es ds one both =
+  comes_of : (s t : Core) (ds : Transcript) (e : PlantDeed) → Does c n s e t → single_deed e → Both ds s → (h : AskingRow) → In h t.parent.pending.rows → Comes e ds s h.1
+  comes_of s t ds e (takes_above at p m s' up) one both = λ h i.
       let r = parent.take c (family n) p m s.parent in
-      let t = take c open_of (place n at) (s.current at) p (class_of n p) s.clock m (s.elements at) in
-      let u = puts Pin Segment c n open_of at r.outputs (with_parent Pin Segment c n open_of r.parent s) in
-      let v = puts Pin Segment c n open_of at t.outputs (with_element Pin Segment c n open_of at t.element s) in
-      split ds (same_as at parent_as)
-      (record { state = u; deeds = Takes at p m r.outputs ∷ es })
-      (record { state = v; deeds = Takes at p m t.outputs ∷ es })
-      (λ up next. after (Takes at p m r.outputs) (es ++ ds) s u both.0 next
-      (λ h i. subst (λ (z : As). Comes (Takes z p m r.outputs) (es ++ ds) s h.1) (sym (same_as_is at parent_as up))
-      (take_comes (es ++ ds) s both.0 both.1 p m one h (subst (λ (k : Parent). In h k.pending.rows) (puts_parent c n at r.outputs (with_parent Pin Segment c n open_of r.parent s)) i))))
-      (λ low next. after (Takes at p m t.outputs) (es ++ ds) s v both.0 next
-      (stay (Takes at p m t.outputs) (es ++ ds) s v (puts_parent c n at t.outputs (with_element Pin Segment c n open_of at t.element s)) both.1))
-
-  fall_gathers : (at : As) (p : Peer) (s : Core) (ds : Transcript) → Both ds s →
-      (let g = fall Pin Segment c n open_of at p (record { state = s; deeds = [] }) in Holds c n (g.deeds ++ ds) g.state → AreGathered (g.deeds ++ ds) g.state)
-  fall_gathers at p s ds both =
+      subst (λ (z : As). Comes (Takes z p m r.outputs) ds s h.1) (sym (same_as_is at parent_as up))
+      (take_comes ds s both.0 both.1 p m one h (subst (λ (k : Parent). In h k.pending.rows) (puts_parent c n at r.outputs (with_parent Pin Segment c n open_of r.parent s)) i))
+  comes_of s t ds e (takes_below at p m s' low heard) one both =
+      let r = take c open_of (place n at) (s.current at) p (class_of n p) s.clock m (s.elements at) in
+      stay e ds s t (puts_parent c n at r.outputs (with_element Pin Segment c n open_of at r.element s)) both.1
+  comes_of s t ds e (downs_above at p s' up) one both = λ h i.
       let r = parent.downed p s.parent in
-      let t = downed p (s.elements at) in
-      let u = puts Pin Segment c n open_of at r.outputs (with_parent Pin Segment c n open_of r.parent s) in
-      let v = puts Pin Segment c n open_of at t.outputs (with_element Pin Segment c n open_of at t.element s) in
-      split ds (same_as at parent_as)
-      (record { state = u; deeds = Downs at p r.outputs ∷ [] })
-      (record { state = v; deeds = Downs at p t.outputs ∷ [] })
-      (λ up next. after (Downs at p r.outputs) ds s u both.0 next
-      (λ h i. downed_come ds s both.0 both.1 p (Downs at p r.outputs) p h (subst (λ (k : Parent). In h k.pending.rows) (puts_parent c n at r.outputs (with_parent Pin Segment c n open_of r.parent s)) i)))
-      (λ low next. after (Downs at p t.outputs) ds s v both.0 next
-      (stay (Downs at p t.outputs) ds s v (puts_parent c n at t.outputs (with_element Pin Segment c n open_of at t.element s)) both.1))
+      downed_come ds s both.0 both.1 p e p h (subst (λ (k : Parent). In h k.pending.rows) (puts_parent c n at r.outputs (with_parent Pin Segment c n open_of r.parent s)) i)
+  comes_of s t ds e (downs_below at p s' low) one both = let r = downed p (s.elements at) in stay e ds s t (puts_parent c n at r.outputs (with_element Pin Segment c n open_of at r.element s)) both.1
+  comes_of s t ds e (ups_above at p s' up) one both = λ h i. stays e ds s both.1 h i
+  comes_of s t ds e (ups_below at p s' low) one both = stay e ds s t refl both.1
+  comes_of s t ds e (solves_above k h s' x) one both = λ g i.
+      let r = parent.commit c (k, x.held) x.answer s.parent in
+      commit_come ds s both.0 both.1 x.held.key.peer e (k, x.held) x.answer g (subst (λ (z : Parent). In g z.pending.rows) (puts_parent c n parent_as r.outputs (with_parent Pin Segment c n open_of r.parent s)) i)
+  comes_of s t ds e (solves_below d k h s' x) one both =
+      let r = commit c (place n d) (k, x.held) x.down s.clock (λ b. b.segment) (job_found x.rows.source_known x.rows.target_known x.rows.best) (s.elements d) in
+      stay e ds s t (puts_parent c n d r.outputs (with_element Pin Segment c n open_of d r.element s)) both.1
+  comes_of s t ds e (pops a b rest s') one both = stay e ds s t refl both.1
+  comes_of s t ds e (hands_out i bytes s') one both = stay e ds s t refl both.1
+  comes_of s t ds e (says_own at p o s') one both = stay e ds s t (puts_parent c n at (record { to = p; message = own_message o } ∷ []) s) both.1
+  comes_of s t ds e (clears_link x s') one both = stay e ds s t refl both.1
+  comes_of s t ds e (expires_at now s') one both = stay e ds s t refl both.1
+  comes_of s t ds e (loads_rows d g s') one both = stay e ds s t refl both.1
 
-  rise_gathers : (at : As) (p : Peer) (s : Core) (ds : Transcript) → Both ds s →
-      (let g = rise Pin Segment c n open_of at p (record { state = s; deeds = [] }) in Holds c n (g.deeds ++ ds) g.state → AreGathered (g.deeds ++ ds) g.state)
-  rise_gathers at p s ds both =
-      let u = with_parent Pin Segment c n open_of (parent.upped p s.parent) s in
-      let v = with_element Pin Segment c n open_of at (upped p (s.elements at)) s in
-      split ds (same_as at parent_as)
-      (record { state = u; deeds = Ups at p ∷ [] })
-      (record { state = v; deeds = Ups at p ∷ [] })
-      (λ up next. after (Ups at p) ds s u both.0 next (λ h i. stays (Ups at p) ds s both.1 h i))
-      (λ low next. after (Ups at p) ds s v both.0 next (stay (Ups at p) ds s v refl both.1))
+  both_same : (ds : Transcript) (s t : Core) → t.elements ≡ s.elements → t.parent ≡ s.parent → t.current ≡ s.current → Both ds s → Both ds t
+  both_same ds s t elements above current both = (holds_same c n ds s t elements above current both.0, λ h i. both.1 h (subst (λ (k : Parent). In h k.pending.rows) above i))
 
-  abbrev IfBoth : Transcript → Core → Type 0
-  IfBoth ds s = AreSingle ds → Both ds s
-
-  gathered_same : (ds : Transcript) (s t : Core) → t.parent ≡ s.parent → AreGathered ds s → AreGathered ds t
-  gathered_same ds s t same old h i = old h (subst (λ (k : Parent). In h k.pending.rows) same i)
-
-  act_gathers : (ds : Transcript) (s t : Core) (es : Transcript) → IfBoth ds s → Acts Pin Segment c n open_of s es t → AreSingle (es ++ ds) → Holds c n (es ++ ds) t → AreGathered (es ++ ds) t
-  act_gathers ds s t es held (rests s' t' same) = λ single next. gathered_same ds s t same.parent (held single).1
-  act_gathers ds s t es held (hears i bytes m s' read) = λ single next.
-      let x = give_single c n (element_of n i) (Outside i) m s [] ds single in
-      give_gathers (element_of n i) (Outside i) m s [] ds x.0 (held x.1) next
-  act_gathers ds s t es held (carries a b bytes rest m s' u is read same) = λ single next.
-      let x = give_single c n b (Inner a) m u (Pops a b ∷ []) ds single in
-      let old = held x.1.1 in
-      let p = popped Pin Segment c n open_of a b rest s in
-      let good = quiet c n (Pops a b) ds s p (λ d q x. refl) (λ d. refl) refl refl (λ d. refl) (λ d. refl) old.0 in
-      let good' = holds_same c n (Pops a b ∷ ds) p u same.elements same.parent same.current good in
-      let more = gathered_same (Pops a b ∷ ds) p u same.parent (after (Pops a b) ds s p old.0 good (stay (Pops a b) ds s p refl old.1)) in
-      give_gathers b (Inner a) m u (Pops a b ∷ []) ds x.0 (good', more) next
-  act_gathers ds s t es held (nods a b bytes rest s' is) = λ single next. let old = held single.1 in after (Pops a b) ds s t old.0 next (stay (Pops a b) ds s t refl old.1)
-  act_gathers ds s t es held (hands i bytes s' t' same) = λ single next. let old = held single.1 in after (Hands i bytes) ds s t old.0 next (stay (Hands i bytes) ds s t same.parent old.1)
-  act_gathers ds s t es held (rises at p s') = λ single next. rise_gathers at p s ds (held (rise_single c n at p s ds single)) next
-  act_gathers ds s t es held (falls at p s') = λ single next. fall_gathers at p s ds (held (fall_single c n at p s ds single)) next
-  act_gathers ds s t es held (says at p o s') = λ single next.
-      let old = held single.1 in
-      let out : Output = record { to = p; message = own_message o } in
-      after (Says at out) ds s t old.0 next (stay (Says at out) ds s t (puts_parent c n at (out ∷ []) s) old.1)
-  act_gathers ds s t es held (clears x s') = λ single next. let old = held single.1 in after (Clears x.lower x.upper) ds s t old.0 next (stay (Clears x.lower x.upper) ds s t refl old.1)
-  act_gathers ds s t es held (expires now s') = λ single next. let old = held single.1 in after (Expires now) ds s t old.0 next (stay (Expires now) ds s t refl old.1)
-
-  act_both : (ds : Transcript) (s t : Core) (es : Transcript) → IfBoth ds s → Acts Pin Segment c n open_of s es t → IfBoth (es ++ ds) t
-  act_both ds s t es held act single =
-      let next = act_holds c n ds s t es (λ z. (held z).0) act single in
-      (next, act_gathers ds s t es held act single next)
-
-  load_both : (ds : Transcript) (s : Plant) (d : As) (g : Rows) → IfBoth ds s → IfBoth (Loads d g ∷ ds) (load_new c n d g s).state
-  load_both ds s d g held single =
-      let old = held single.1 in
-      let next = load_holds c n ds s d g (λ z. (held z).0) single in
-      (next, after (Loads d g) ds s (load_new c n d g s).state old.0 next (stay (Loads d g) ds s (load_new c n d g s).state refl old.1))
-
-  solve_both : (ds : Transcript) (s : Plant) (d : As) (k : ℕ) (h : Happened) → IfBoth ds s → ElementSolves c n d k s h → IfBoth (h.deeds ++ ds) h.state
-  solve_both ds s d k h held x single = (solve_holds c n ds s d k h (λ z. (held z).0) x single, gathers single)
-    where
-      gathers : AreSingle (h.deeds ++ ds) → AreGathered (h.deeds ++ ds) h.state
-      gathers =
-          let r = commit c (place n d) (k, x.held) x.down s.clock (λ b. b.segment) (job_found x.rows.source_known x.rows.target_known x.rows.best) (s.elements d) in
-          let v = puts Pin Segment c n open_of d r.outputs (with_element Pin Segment c n open_of d r.element s) in
-          let e : PlantDeed = Solves d k r.outputs r.element.keys.issued in
-          let next : AreSingle (e ∷ ds) → Holds c n (e ∷ ds) v = subst (λ (h' : Happened). AreSingle (h'.deeds ++ ds) → Holds c n (h'.deeds ++ ds) h'.state) x.is (solve_holds c n ds s d k h (λ z. (held z).0) x) in
-          subst (λ (h' : Happened). AreSingle (h'.deeds ++ ds) → AreGathered (h'.deeds ++ ds) h'.state) (sym x.is)
-          (λ single.
-          let old = held single.1 in
-          after e ds s v old.0 (next single) (stay e ds s v (puts_parent c n d r.outputs (with_element Pin Segment c n open_of d r.element s)) old.1))
-
-  upper_both : (ds : Transcript) (s : Plant) (k : ℕ) (h : Happened) → IfBoth ds s → ParentSolves c n k s h → IfBoth (h.deeds ++ ds) h.state
-  upper_both ds s k h held x single = (upper_holds c n ds s k h (λ z. (held z).0) x single, gathers single)
-    where
-      gathers : AreSingle (h.deeds ++ ds) → AreGathered (h.deeds ++ ds) h.state
-      gathers =
-          let r = parent.commit c (k, x.held) x.answer s.parent in
-          let v = puts Pin Segment c n open_of parent_as r.outputs (with_parent Pin Segment c n open_of r.parent s) in
-          let e : PlantDeed = Solves parent_as k r.outputs [] in
-          let next : AreSingle (e ∷ ds) → Holds c n (e ∷ ds) v = subst (λ (h' : Happened). AreSingle (h'.deeds ++ ds) → Holds c n (h'.deeds ++ ds) h'.state) x.is (upper_holds c n ds s k h (λ z. (held z).0) x) in
-          subst (λ (h' : Happened). AreSingle (h'.deeds ++ ds) → AreGathered (h'.deeds ++ ds) h'.state) (sym x.is)
-          (λ single.
-          let old = held single.1 in
-          after e ds s v old.0 (next single)
-          (λ h' i. commit_come ds s old.0 old.1 x.held.key.peer e (k, x.held) x.answer h' (subst (λ (z : Parent). In h' z.pending.rows) (puts_parent c n parent_as r.outputs (with_parent Pin Segment c n open_of r.parent s)) i)))
+  does_both : (ds : Transcript) (s t : Core) (e : PlantDeed) → Does c n s e t → single_deed e → Both ds s → Both (e ∷ ds) t
+  does_both ds s t e does one both =
+      let next = does_hold c n ds s t e does one both.0 in
+      (next, after e ds s t both.0 next (comes_of s t ds e does one both))
 
   pub run_gathers : (es : List Entry) (s : Plant) → Run c n es s → AreSingle (deeds_of c n es) → AreGathered (deeds_of c n es) s
-  run_gathers es s run single = (run_holds c n IfBoth (λ z. (bare_holds c n z, (λ h none. absurd none))) act_both (λ ds s d g given held. load_both ds s d g held) solve_both upper_both es s run single).1
+  run_gathers es s run single = (run_singles c n Both both_same does_both (λ z. (bare_holds c n z, (λ h none. absurd none))) es s run single).1
 
 -- ---- what is ready
 

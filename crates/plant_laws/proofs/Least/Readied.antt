@@ -1,45 +1,42 @@
 -- In every state of a run, the branches of a row that is ready are none, in the last domain, or those of a reply that was taken.
-use Rattle.std.proofs.Common.{◌≡◌, ◌⊎◌, ℕ, Bool, true, false, cond, Option, Some, None, List, [], ◌∷◌, ◌++◌, length, drop, map, inl, inr, sym, ◌∙◌, ap, subst, refl}
+use Rattle.std.proofs.Common.{◌≡◌, ◌⊎◌, ℕ, Bool, true, false, cond, Option, Some, None, List, [], ◌∷◌, length, drop, map, inl, inr, sym, ◌∙◌, ap, subst, refl}
 use Rattle.std.proofs.lemmas.Bool.{cases_Bool, eqb-true}
 use Rattle.std.specs.Option.{option_map}
 use Rattle.plant_model.specs.Types.{As, Peer, Outside, Inner, Message, RequestKey, NetworkParts, Held, Path, Reply, Wanted, Class, Branch}
 use Rattle.te_links.specs.Rows.{Rows}
 use Rattle.disclosure.specs.Shown.{open_of}
-use Rattle.request_table.specs.Pending.{Pending}
+use Rattle.request_table.specs.Pending.{Pending, same_peer, same_key, NumbersRise, AreNamedOnce}
 use Rattle.plant_model.specs.declared.output.Output.{Output}
 use Rattle.plant_text.specs.Names.{same_as, parent_as}
 use Rattle.plant_model.specs.Names.{the_parent, set_as}
 use Rattle.plant_model.specs.Wire.{Codec}
 use Rattle.plant_model.specs.Writing.{request_message}
-use Rattle.plant_model.specs.Element.{Stage, Waits, Ready, Item, Element, Row, upped, downed}
+use Rattle.plant_model.specs.Element.{Stage, Waits, Ready, Item, Element, Row, upped, downed, at_stage, waits_for, waiting, sent_through, ElementSettings}
 use Rattle.plant_model.specs.Taking.{take}
 use Rattle.plant_model.specs.Solving.{commit, job_found}
 use Rattle.plant_model.specs.Parent as parent
 use Rattle.plant_text.specs.Settings.{class_of}
 use Rattle.plant_model.specs.Settings.{place, family}
-use Rattle.plant_model.specs.State.{State, Loads, Pops, Takes, Says, Ups, Downs, Clears, Solves, Expires, Hands}
-use Rattle.plant_model.specs.Deeds.{Going, element_of, own_message, with_parent, with_element, puts, give, rise, fall}
-use Rattle.plant_model.specs.Plant.{Pin, Segment, Plant, PlantDeed, Happened, Entry, Run, deeds_of, load_new, ElementSolves, ParentSolves}
-use Rattle.plant_laws.specs.Transcript.{Transcript, effect, opened, SentIn}
-use Rattle.plant_laws.proofs.Runs.Acts.{popped, Acts, rests, hears, carries, nods, hands, rises, falls, says, clears, expires}
+use Rattle.plant_model.specs.State.{State, Takes}
+use Rattle.plant_model.specs.Deeds.{own_message, with_parent, with_element, rise}
+use Rattle.plant_model.specs.Plant.{Pin, Segment, Plant, PlantDeed, Entry, Run, deeds_of, first_pin}
+use Rattle.plant_laws.specs.Transcript.{Transcript, effect, opened, SentIn, Within}
 use Rattle.plant_laws.proofs.Runs.Queues.{same_as_is}
-use Rattle.plant_laws.proofs.Runs.Induction.{run_holds}
 use Rattle.plant_laws.proofs.Runs.Rows.{In, seen_in}
-use Rattle.plant_laws.proofs.Once.Opened.{AreSingle, Holds, puts_elements, set_pending}
-use Rattle.plant_laws.proofs.Once.OpenedRuns.{give_single, fall_single, rise_single, bare_holds}
+use Rattle.plant_laws.proofs.Once.Opened.{AreSingle, Holds, puts_elements, set_pending, single_deed}
+use Rattle.plant_laws.proofs.Once.DeedByDeed.{Does, takes_above, takes_below, downs_above, downs_below, ups_above, ups_below, solves_above, solves_below, pops, hands_out, says_own, clears_link, expires_at, loads_rows, ComesAs, run_singles}
+use Rattle.plant_model.specs.Events as events
 use Rattle.plant_laws.proofs.Numbering.SentOn.{IsRest}
 use Rattle.std.specs.Prelude.{◌==◌}
 use Rattle.pcep_messages.specs.declared.message.Message.TheVariants as messages
-use Rattle.request_table.specs.Pending.{same_peer, same_key, NumbersRise, AreNamedOnce}
 use Rattle.request_table.proofs.KeyLemmas.{same_key_is}
 use Rattle.plant_model.specs.Branches.{branches_in}
-use Rattle.plant_model.specs.Element.{at_stage, waits_for, waiting, sent_through, ElementSettings}
 use Rattle.plant_model.specs.Outside.{heeded, heeded_by}
-use Rattle.plant_laws.specs.Transcript.{Within}
 use Rattle.plant_laws.proofs.Runs.Moments.{peer_is}
-use Rattle.plant_laws.proofs.Settled.Waits.{Both, SentAt, still, is_open, act_both, load_both, solve_both, upper_both}
-use Rattle.plant_laws.proofs.Least.StagesKept as kept
-use Rattle.plant_laws.proofs.Least.StagesKept.{IsFresh}
+use Rattle.plant_laws.proofs.Settled.Waits.{Both, SentAt, still, is_open, both_same, does_both, bare_both}
+use Rattle.plant_laws.proofs.Least.RowsKept.{IsFresh, take_keeps, downed_keeps, commit_keeps}
+use Rattle.plant_laws.proofs.Runs.TablesKept as table
+use Rattle.plant_laws.proofs.Runs.TakesKept.{replies_of}
 use Rattle.plant_laws.specs.Ends.{Tells, IsHeeded}
 use Rattle.plant_laws.specs.Waiting.{wait_alike}
 use Rattle.plant_laws.proofs.Runs.Seen.{seen}
@@ -118,29 +115,9 @@ module _ (c : Codec) (old : List (Row Pin)) (p : Peer) (rs : List Reply) where
   made_ready h r paths i upper waits tells (inr (inl q)) = absurd (no_wait r q.0.1.item (branches_in c q.0.1.item.wanted.query.metric q.3.paths) h.item q.3.is waits)
   made_ready h r paths i upper waits tells (inr (inr q)) = absurd (none_in r q.0 i)
 
-  abbrev Held_ : Element Pin Segment → Type 0
-  Held_ k = kept.Holds Pin Segment FromOld c p rs made_ready k
-
-  -- by the one membership and the other
-  pub of_rows : (xs : List (Row Pin)) → kept.Rows Pin Segment FromOld c p rs made_ready xs → (h : Row Pin) → In h xs → FromOld h.1
-  of_rows [] r h i = absurd i
-  of_rows (x ∷ xs) r h (inl same) = subst (λ (z : Row Pin). FromOld z.1) same r.0
-  of_rows (x ∷ xs) r h (inr i) = of_rows xs r.1 h i
-
-  pub to_rows : (xs : List (Row Pin)) → ((h : Row Pin) → In h xs → In h old) → kept.Rows Pin Segment FromOld c p rs made_ready xs
-  to_rows [] within = tt
-  to_rows (x ∷ xs) within = (inl (x, within x (inl refl), refl, refl), to_rows xs (λ h i. within h (inr i)))
-
--- the rows of an element after it took a message
-abbrev replies_of : Message → List Reply
-replies_of (messages.PcRep replies) = replies
-replies_of (messages.PcReq asks) = []
-replies_of (messages.PcNtf notices) = []
-replies_of (messages.PcErr reports) = []
-replies_of (messages.Open body) = []
-replies_of messages.Keepalive = []
-replies_of (messages.Close why) = []
-replies_of (messages.Other kind) = []
+  -- rows as they were
+  pub as_old : (xs : List (Row Pin)) → ((h : Row Pin) → In h xs → In h old) → table.Rows FromOld xs
+  as_old xs within = table.rows_in FromOld xs (λ h i. inl (h, within h i, refl, refl))
 
 -- what is heeded
 module _ (c : Codec) where
@@ -194,43 +171,26 @@ one_sequence rows h g once i j key =
     let some : Some h.1.item.sequence ≡ Some g.1.item.sequence = sym (seen_in f rows h once i) ∙ ap (λ (k : RequestKey). seen f k rows) key ∙ seen_in f rows g once j in
     cc
 
-module _ (c : Codec) (e : ElementSettings) (pin : Pin) (p : Peer) (class : Class) (now : ℕ) (k : Element Pin Segment) (numbers : NumbersRise 0 k.pending.rows k.pending.given) where
-  abbrev From : List Reply → Row Pin → Type 0
-  From rs h = FromOld c k.pending.rows p rs h.1
+-- the rows of an element after it took a message
+module _ (c : Codec) (k : Element Pin Segment) (numbers : NumbersRise 0 k.pending.rows k.pending.given) (p : Peer) where
+  abbrev From : List Reply → Held (Item Pin) → Type 0
+  From rs = FromOld c k.pending.rows p rs
 
-  begins : (rs : List Reply) → kept.Holds Pin Segment (FromOld c k.pending.rows p rs) c p rs (made_ready c k.pending.rows p rs) k
-  begins rs = record { rise = numbers; rows = to_rows c k.pending.rows p rs k.pending.rows (λ h i. i) }
+  begins : (rs : List Reply) → table.Keeps (From rs) k.pending
+  begins rs = record { rise = numbers; rows = as_old c k.pending.rows p rs k.pending.rows (λ h i. i) }
 
-  others : (m : Message) → kept.AreReplies Pin Segment (FromOld c k.pending.rows p []) c p [] (made_ready c k.pending.rows p []) e pin class
-      (λ a r w is path sequence stage fresh. inr (inr (refl, fresh))) m → (h : Row Pin) → In h (take c open_of e pin p class now m k).element.pending.rows → From [] h
-  others m none h i =
-      of_rows c k.pending.rows p [] (take c open_of e pin p class now m k).element.pending.rows
-      (kept.take_keeps Pin Segment (FromOld c k.pending.rows p []) c p [] (made_ready c k.pending.rows p []) e pin class
-      (λ a r w is path sequence stage fresh. inr (inr (refl, fresh))) open_of now m none k (begins [])).rows h i
+  pub take_from : (e : ElementSettings) (pin : Pin) (class : Class) (now : ℕ) (m : Message) (h : Row Pin) → In h (take c open_of e pin p class now m k).element.pending.rows → From (replies_of m) h.1
+  take_from e pin class now m h i =
+      table.in_rows (From (replies_of m)) h (take c open_of e pin p class now m k).element.pending.rows
+      (take_keeps (From (replies_of m)) c e pin p class open_of now m (λ none a r w is wish sequence stage fresh. inr (inr (none, fresh))) (made_ready c k.pending.rows p (replies_of m)) k (begins (replies_of m))).rows i
 
-  pub take_from : (m : Message) (h : Row Pin) → In h (take c open_of e pin p class now m k).element.pending.rows → From (replies_of m) h
-  take_from (messages.PcRep replies) h i =
-      of_rows c k.pending.rows p replies (take c open_of e pin p class now (messages.PcRep replies) k).element.pending.rows
-      (kept.replies_after Pin Segment (FromOld c k.pending.rows p replies) c p replies (made_ready c k.pending.rows p replies) replies (λ r j. j) k (begins replies)).rows h i
-  take_from (messages.PcReq asks) h i = others (messages.PcReq asks) tt h i
-  take_from (messages.PcNtf notices) h i = others (messages.PcNtf notices) tt h i
-  take_from (messages.PcErr reports) h i = others (messages.PcErr reports) tt h i
-  take_from (messages.Open body) h i = others (messages.Open body) tt h i
-  take_from messages.Keepalive h i = others messages.Keepalive tt h i
-  take_from (messages.Close why) h i = others (messages.Close why) tt h i
-  take_from (messages.Other kind) h i = others (messages.Other kind) tt h i
+  pub downed_from : (q : Peer) (h : Row Pin) → In h (downed q k).element.pending.rows → From [] h.1
+  downed_from q h i = table.in_rows (From []) h (downed q k).element.pending.rows (downed_keeps (From []) q k (begins [])).rows i
 
-module _ (c : Codec) (k : Element Pin Segment) (numbers : NumbersRise 0 k.pending.rows k.pending.given) (q : Peer) where
-  pub downed_from : (p : Peer) (h : Row Pin) → In h (downed p k).element.pending.rows → FromOld c k.pending.rows q [] h.1
-  downed_from p h i =
-      of_rows c k.pending.rows q [] (downed p k).element.pending.rows
-      (kept.downed_keeps Pin Segment (FromOld c k.pending.rows q []) c q [] (made_ready c k.pending.rows q []) p k (record { rise = numbers; rows = to_rows c k.pending.rows q [] k.pending.rows (λ g j. j) })).rows h i
-
-  pub commit_from : (e : ElementSettings) (row : Row Pin) (down : List Branch) (now : ℕ) (s t : Bool) (best : List _) (h : Row Pin) → In h (commit c e row down now (λ b. b.segment) (job_found s t best) k).element.pending.rows → FromOld c k.pending.rows q [] h.1
+  pub commit_from : (e : ElementSettings) (row : Row Pin) (down : List Branch) (now : ℕ) (s t : Bool) (best : List _) (h : Row Pin) → In h (commit c e row down now (λ b. b.segment) (job_found s t best) k).element.pending.rows → From [] h.1
   commit_from e row down now s t best h i =
-      of_rows c k.pending.rows q [] (commit c e row down now (λ b. b.segment) (job_found s t best) k).element.pending.rows
-      (kept.commit_keeps Pin Segment (FromOld c k.pending.rows q []) c q [] (made_ready c k.pending.rows q []) c e row down now (λ b. b.segment) s t best k
-      (record { rise = numbers; rows = to_rows c k.pending.rows q [] k.pending.rows (λ g j. j) })).rows h i
+      table.in_rows (From []) h (commit c e row down now (λ b. b.segment) (job_found s t best) k).element.pending.rows
+      (commit_keeps (From []) c e row down now (λ b. b.segment) s t best k (begins [])).rows i
 
 module _ (c : Codec) (n : NetworkParts) where
   abbrev Core : Type 0
@@ -395,140 +355,60 @@ module _ (c : Codec) (n : NetworkParts) where
   take_comes at s p (messages.Close why) os heeds h q = silent_comes at s p (messages.Close why) os h q
   take_comes at s p (messages.Other kind) os heeds h q = silent_comes at s p (messages.Other kind) os h q
 
-  split : (ds : Transcript) (x : Bool) (g h : Going Pin Segment) → (x ≡ true → Holds c n (g.deeds ++ ds) g.state → AreReady (g.deeds ++ ds) g.state) → (x ≡ false → Holds c n (h.deeds ++ ds) h.state → AreReady (h.deeds ++ ds) h.state) →
-      Holds c n ((cond x g h).deeds ++ ds) (cond x g h).state → AreReady ((cond x g h).deeds ++ ds) (cond x g h).state
-  split ds true g h up low = up refl
-  split ds false g h up low = low refl
-
   abbrev pub All : Transcript → Core → Type 0
   All ds s = Both c n ds s × AreReady ds s
 
   pub numbers : (ds : Transcript) (s : Core) → Both c n ds s → (d : As) → NumbersRise 0 (s.elements d).pending.rows (s.elements d).pending.given
   numbers ds s both d = (both.0.elements d).numbers
 
-  give_ready : (at : As) (p : Peer) (m : Message) (s : Core) (es ds : Transcript) → ((r : Reply) → In r (replies_of m) → Heeds c p (s.elements at).pending.rows r) → All (es ++ ds) s →
-      (let g = give Pin Segment c n open_of at p m (record { state = s; deeds = es }) in Holds c n (g.deeds ++ ds) g.state → AreReady (g.deeds ++ ds) g.state)
-  give_ready at p m s es ds heeds all =
-      let r = parent.take c (family n) p m s.parent in
-      let t = take c open_of (place n at) (s.current at) p (class_of n p) s.clock m (s.elements at) in
-      let u = puts Pin Segment c n open_of at r.outputs (with_parent Pin Segment c n open_of r.parent s) in
-      let v = puts Pin Segment c n open_of at t.outputs (with_element Pin Segment c n open_of at t.element s) in
-      split ds (same_as at parent_as)
-      (record { state = u; deeds = Takes at p m r.outputs ∷ es })
-      (record { state = v; deeds = Takes at p m t.outputs ∷ es })
-      (λ up next. ready_after (Takes at p m r.outputs) (es ++ ds) s u all.0 all.1 next
-      (stay (Takes at p m r.outputs) s u (λ d. ap (λ (f : As → Element Pin Segment). (f d).pending) (puts_elements c n at r.outputs (with_parent Pin Segment c n open_of r.parent s)))))
-      (λ low next. ready_after (Takes at p m t.outputs) (es ++ ds) s v all.0 all.1 next
-      (come (Takes at p m t.outputs) at t.element s v (puts_elements c n at t.outputs (with_element Pin Segment c n open_of at t.element s))
-      (λ h i. take_comes at s p m t.outputs heeds h (take_from c (place n at) (s.current at) p (class_of n p) s.clock (s.elements at) (numbers (es ++ ds) s all.0 at) m h i))))
-
-  fall_ready : (at : As) (p : Peer) (s : Core) (ds : Transcript) → All ds s →
-      (let g = fall Pin Segment c n open_of at p (record { state = s; deeds = [] }) in Holds c n (g.deeds ++ ds) g.state → AreReady (g.deeds ++ ds) g.state)
-  fall_ready at p s ds all =
-      let r = parent.downed p s.parent in
-      let t = downed p (s.elements at) in
-      let u = puts Pin Segment c n open_of at r.outputs (with_parent Pin Segment c n open_of r.parent s) in
-      let v = puts Pin Segment c n open_of at t.outputs (with_element Pin Segment c n open_of at t.element s) in
-      split ds (same_as at parent_as)
-      (record { state = u; deeds = Downs at p r.outputs ∷ [] })
-      (record { state = v; deeds = Downs at p t.outputs ∷ [] })
-      (λ up next. ready_after (Downs at p r.outputs) ds s u all.0 all.1 next
-      (stay (Downs at p r.outputs) s u (λ d. ap (λ (f : As → Element Pin Segment). (f d).pending) (puts_elements c n at r.outputs (with_parent Pin Segment c n open_of r.parent s)))))
-      (λ low next. ready_after (Downs at p t.outputs) ds s v all.0 all.1 next
-      (come (Downs at p t.outputs) at t.element s v (puts_elements c n at t.outputs (with_element Pin Segment c n open_of at t.element s))
-      (λ h i. quiet_comes (Downs at p t.outputs) at s p h (downed_from c (s.elements at) (numbers ds s all.0 at) p p h i))))
-
-  rise_ready : (at : As) (p : Peer) (s : Core) (ds : Transcript) → All ds s →
-      (let g = rise Pin Segment c n open_of at p (record { state = s; deeds = [] }) in Holds c n (g.deeds ++ ds) g.state → AreReady (g.deeds ++ ds) g.state)
-  rise_ready at p s ds all =
-      let u = with_parent Pin Segment c n open_of (parent.upped p s.parent) s in
-      let v = with_element Pin Segment c n open_of at (upped p (s.elements at)) s in
-      split ds (same_as at parent_as)
-      (record { state = u; deeds = Ups at p ∷ [] })
-      (record { state = v; deeds = Ups at p ∷ [] })
-      (λ up next. ready_after (Ups at p) ds s u all.0 all.1 next (stay (Ups at p) s u (λ d. refl)))
-      (λ low next. ready_after (Ups at p) ds s v all.0 all.1 next (come (Ups at p) at (upped p (s.elements at)) s v refl (λ h i. inl (h, i, refl, refl))))
-
-  abbrev pub IfAll : Transcript → Core → Type 0
-  IfAll ds s = AreSingle ds → All ds s
-
   pub ready_same : (ds : Transcript) (s t : Core) → t.elements ≡ s.elements → AreReady ds s → AreReady ds t
   ready_same ds s t same ready = subst (λ (f : As → Element Pin Segment). (d : As) (h : Row Pin) → In h (f d).pending.rows → ReadyAt ds d h h.1.item.stage) (sym same) ready
 
-  act_ready : (ds : Transcript) (s t : Core) (es : Transcript) → IfAll ds s → Acts Pin Segment c n open_of s es t → AreSingle (es ++ ds) → Holds c n (es ++ ds) t → AreReady (es ++ ds) t
-  act_ready ds s t es held (rests s' t' same) = λ single next. ready_same ds s t same.elements (held single).1
-  act_ready ds s t es held (hears i bytes m s' read) = λ single next.
-      let x = give_single c n (element_of n i) (Outside i) m s [] ds single in
-      let heard : (r : Reply) → In r (replies_of m) → Heeds c (Outside i) (s.elements (element_of n i)).pending.rows r =
-      subst (λ (z : Message). (r : Reply) → In r (replies_of z) → Heeds c (Outside i) (s.elements (element_of n i)).pending.rows r) (sym read.2) (heeds_of c i (s.elements (element_of n i)).pending.rows read.0) in
-      give_ready (element_of n i) (Outside i) m s [] ds heard (held x.1) next
-  act_ready ds s t es held (carries a b bytes rest m s' u is read same) = λ single next.
-      let x = give_single c n b (Inner a) m u (Pops a b ∷ []) ds single in
-      let old = held x.1.1 in
-      let q = popped Pin Segment c n open_of a b rest s in
-      let both = act_both c n ds s q (Pops a b ∷ []) (λ z. (held z).0) (nods a b bytes rest s is) x.1 in
-      let both' = act_both c n (Pops a b ∷ ds) q u [] (λ z. both) (rests q u same) x.1 in
-      let ready' = ready_same (Pops a b ∷ ds) q u same.elements (ready_after (Pops a b) ds s q old.0 old.1 both.0 (stay (Pops a b) s q (λ d. refl))) in
-      give_ready b (Inner a) m u (Pops a b ∷ []) ds (λ r j. tt) (both', ready') next
-  act_ready ds s t es held (nods a b bytes rest s' is) = λ single next. let old = held single.1 in ready_after (Pops a b) ds s t old.0 old.1 next (stay (Pops a b) s t (λ d. refl))
-  act_ready ds s t es held (hands i bytes s' t' same) = λ single next.
-      let old = held single.1 in
-      ready_after (Hands i bytes) ds s t old.0 old.1 next (stay (Hands i bytes) s t (λ d. ap (λ (f : As → Element Pin Segment). (f d).pending) same.elements))
-  act_ready ds s t es held (rises at p s') = λ single next. rise_ready at p s ds (held (rise_single c n at p s ds single)) next
-  act_ready ds s t es held (falls at p s') = λ single next. fall_ready at p s ds (held (fall_single c n at p s ds single)) next
-  act_ready ds s t es held (says at p o s') = λ single next.
-      let old = held single.1 in
-      let out : Output = record { to = p; message = own_message o } in
-      ready_after (Says at out) ds s t old.0 old.1 next (stay (Says at out) s t (λ d. ap (λ (f : As → Element Pin Segment). (f d).pending) (puts_elements c n at (out ∷ []) s)))
-  act_ready ds s t es held (clears x s') = λ single next. let old = held single.1 in ready_after (Clears x.lower x.upper) ds s t old.0 old.1 next (stay (Clears x.lower x.upper) s t (λ d. refl))
-  act_ready ds s t es held (expires now s') = λ single next. let old = held single.1 in ready_after (Expires now) ds s t old.0 old.1 next (stay (Expires now) s t (λ d. refl))
+  -- elements' rows are as before
+  as_before : (e : PlantDeed) (s t : Core) → t.elements ≡ s.elements → (d : As) (h : Row Pin) → In h (t.elements d).pending.rows → ComesFrom e s d h
+  as_before e s t same = stay e s t (λ d. ap (λ (f : As → Element Pin Segment). (f d).pending) same)
 
-  pub act_all : (ds : Transcript) (s t : Core) (es : Transcript) → IfAll ds s → Acts Pin Segment c n open_of s es t → IfAll (es ++ ds) t
-  act_all ds s t es held act single =
-      let both = act_both c n ds s t es (λ z. (held z).0) act single in
-      (both, act_ready ds s t es held act single both.0)
+  heeds : (at : As) (p : Peer) (m : Message) (s : Core) → ComesAs c n at p m s → (r : Reply) → In r (replies_of m) → Heeds c p (s.elements at).pending.rows r
+  heeds at (Inner b) m s heard = λ r i. tt
+  heeds at (Outside i) m s heard =
+      subst (λ (z : Message). (r : Reply) → In r (replies_of z) → Heeds c (Outside i) (s.elements at).pending.rows r) (sym heard.1) (heeds_of c i (s.elements at).pending.rows heard.0)
 
-  pub load_all : (ds : Transcript) (s : Plant) (d : As) (g : Rows) → IfAll ds s → IfAll (Loads d g ∷ ds) (load_new c n d g s).state
-  load_all ds s d g held single =
-      let old = held single.1 in
-      let both = load_both c n ds s d g (λ z. (held z).0) single in
-      (both, ready_after (Loads d g) ds s (load_new c n d g s).state old.0 old.1 both.0 (stay (Loads d g) s (load_new c n d g s).state (λ d'. refl)))
+  comes_of : (s t : Core) (ds : Transcript) (e : PlantDeed) → Does c n s e t → single_deed e → Both c n ds s → (d : As) (h : Row Pin) → In h (t.elements d).pending.rows → ComesFrom e s d h
+  comes_of s t ds e (takes_above at p m s' up) one both = as_before e s t (let r = parent.take c (family n) p m s.parent in puts_elements c n at r.outputs (with_parent Pin Segment c n open_of r.parent s))
+  comes_of s t ds e (takes_below at p m s' low heard) one both =
+      let r = take c open_of (place n at) (s.current at) p (class_of n p) s.clock m (s.elements at) in
+      come e at r.element s t (puts_elements c n at r.outputs (with_element Pin Segment c n open_of at r.element s))
+      (λ h i. take_comes at s p m r.outputs (heeds at p m s heard) h (take_from c (s.elements at) (numbers ds s both at) p (place n at) (s.current at) (class_of n p) s.clock m h i))
+  comes_of s t ds e (downs_above at p s' up) one both = as_before e s t (let r = parent.downed p s.parent in puts_elements c n at r.outputs (with_parent Pin Segment c n open_of r.parent s))
+  comes_of s t ds e (downs_below at p s' low) one both =
+      let r = downed p (s.elements at) in
+      come e at r.element s t (puts_elements c n at r.outputs (with_element Pin Segment c n open_of at r.element s)) (λ h i. quiet_comes e at s p h (downed_from c (s.elements at) (numbers ds s both at) p p h i))
+  comes_of s t ds e (ups_above at p s' up) one both = as_before e s t refl
+  comes_of s t ds e (ups_below at p s' low) one both = come e at (upped p (s.elements at)) s t refl (λ h i. inl (h, i, refl, refl))
+  comes_of s t ds e (solves_above k h s' x) one both =
+      let r = parent.commit c (k, x.held) x.answer s.parent in
+      as_before e s t (puts_elements c n parent_as r.outputs (with_parent Pin Segment c n open_of r.parent s))
+  comes_of s t ds e (solves_below d k h s' x) one both =
+      let r = commit c (place n d) (k, x.held) x.down s.clock (λ b. b.segment) (job_found x.rows.source_known x.rows.target_known x.rows.best) (s.elements d) in
+      come e d r.element s t (puts_elements c n d r.outputs (with_element Pin Segment c n open_of d r.element s))
+      (λ g i. quiet_comes e d s the_parent g (commit_from c (s.elements d) (numbers ds s both d) the_parent (place n d) (k, x.held) x.down s.clock x.rows.source_known x.rows.target_known x.rows.best g i))
+  comes_of s t ds e (pops a b rest s') one both = stay e s t (λ d. refl)
+  comes_of s t ds e (hands_out i bytes s') one both = stay e s t (λ d. refl)
+  comes_of s t ds e (says_own at p o s') one both = as_before e s t (puts_elements c n at (record { to = p; message = own_message o } ∷ []) s)
+  comes_of s t ds e (clears_link x s') one both = stay e s t (λ d. refl)
+  comes_of s t ds e (expires_at now s') one both = stay e s t (λ d. refl)
+  comes_of s t ds e (loads_rows d g s') one both = stay e s t (λ d'. refl)
 
-  pub solve_all : (ds : Transcript) (s : Plant) (d : As) (k : ℕ) (h : Happened) → IfAll ds s → ElementSolves c n d k s h → IfAll (h.deeds ++ ds) h.state
-  solve_all ds s d k h held x single = (both, ready single both)
-    where
-      both : Both c n (h.deeds ++ ds) h.state
-      both = solve_both c n ds s d k h (λ z. (held z).0) x single
+  pub all_same : (ds : Transcript) (s t : Core) → t.elements ≡ s.elements → t.parent ≡ s.parent → t.current ≡ s.current → All ds s → All ds t
+  all_same ds s t elements above current all = (both_same c n ds s t elements above current all.0, ready_same ds s t elements all.1)
 
-      ready : AreSingle (h.deeds ++ ds) → Both c n (h.deeds ++ ds) h.state → AreReady (h.deeds ++ ds) h.state
-      ready =
-          let r = commit c (place n d) (k, x.held) x.down s.clock (λ b. b.segment) (job_found x.rows.source_known x.rows.target_known x.rows.best) (s.elements d) in
-          let v = puts Pin Segment c n open_of d r.outputs (with_element Pin Segment c n open_of d r.element s) in
-          let e : PlantDeed = Solves d k r.outputs r.element.keys.issued in
-          subst (λ (h' : Happened). AreSingle (h'.deeds ++ ds) → Both c n (h'.deeds ++ ds) h'.state → AreReady (h'.deeds ++ ds) h'.state) (sym x.is)
-          (λ single' next.
-          let old = held single'.1 in
-          ready_after e ds s v old.0 old.1 next.0
-          (come e d r.element s v (puts_elements c n d r.outputs (with_element Pin Segment c n open_of d r.element s))
-          (λ g i. quiet_comes e d s the_parent g (commit_from c (s.elements d) (numbers ds s old.0 d) the_parent (place n d) (k, x.held) x.down s.clock x.rows.source_known x.rows.target_known x.rows.best g i))))
+  pub does_all : (ds : Transcript) (s t : Core) (e : PlantDeed) → Does c n s e t → single_deed e → All ds s → All (e ∷ ds) t
+  does_all ds s t e does one all =
+      let both = does_both c n ds s t e does one all.0 in
+      (both, ready_after e ds s t all.0 all.1 both.0 (comes_of s t ds e does one all.0))
 
-  pub upper_all : (ds : Transcript) (s : Plant) (k : ℕ) (h : Happened) → IfAll ds s → ParentSolves c n k s h → IfAll (h.deeds ++ ds) h.state
-  upper_all ds s k h held x single = (both, ready single both)
-    where
-      both : Both c n (h.deeds ++ ds) h.state
-      both = upper_both c n ds s k h (λ z. (held z).0) x single
-
-      ready : AreSingle (h.deeds ++ ds) → Both c n (h.deeds ++ ds) h.state → AreReady (h.deeds ++ ds) h.state
-      ready =
-          let r = parent.commit c (k, x.held) x.answer s.parent in
-          let v = puts Pin Segment c n open_of parent_as r.outputs (with_parent Pin Segment c n open_of r.parent s) in
-          let e : PlantDeed = Solves parent_as k r.outputs [] in
-          subst (λ (h' : Happened). AreSingle (h'.deeds ++ ds) → Both c n (h'.deeds ++ ds) h'.state → AreReady (h'.deeds ++ ds) h'.state) (sym x.is)
-          (λ single' next.
-          let old = held single'.1 in
-          ready_after e ds s v old.0 old.1 next.0
-          (stay e s v (λ d. ap (λ (f : As → Element Pin Segment). (f d).pending) (puts_elements c n parent_as r.outputs (with_parent Pin Segment c n open_of r.parent s)))))
+  pub bare_all : AreSingle [] → All [] (events.bare Pin Segment c n open_of first_pin)
+  bare_all single = (bare_both c n single, (λ d h none. absurd none))
 
   pub run_ready : (es : List Entry) (s : Plant) → Run c n es s → AreSingle (deeds_of c n es) → (Both c n (deeds_of c n es) s) × AreReady (deeds_of c n es) s
-  run_ready es s run single =
-      run_holds c n IfAll (λ z. ((bare_holds c n z, ((λ d h none. absurd none), (λ d h g none. absurd none))), (λ d h none. absurd none))) act_all (λ ds s d g given held. load_all ds s d g held) solve_all upper_all es s run single
+  run_ready = run_singles c n All all_same does_all bare_all

@@ -26,7 +26,7 @@ use Rattle.plant_laws.proofs.Runs.Rows.{In, in_of}
 use Rattle.plant_laws.proofs.WrittenForm.ReadBack.{run_single}
 use Rattle.plant_laws.proofs.Once.OpenTables.{found}
 use Rattle.plant_laws.proofs.Numbering.SentOn.{IsRest}
-use Rattle.plant_laws.proofs.Least.StagesKept.{IsFresh}
+use Rattle.plant_laws.proofs.Least.RowsKept.{IsFresh}
 use Rattle.plant_laws.proofs.Least.Readied.{IsBack, ReadyAt, run_ready}
 use Rattle.plant_laws.proofs.Least.Given.{IsReadied}
 use Rattle.plant_laws.specs.Ends.{IsHeeded}

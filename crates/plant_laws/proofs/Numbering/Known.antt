@@ -36,9 +36,8 @@ use Rattle.plant_laws.proofs.Once.Handing.{In, In-append, In-left, IsAsk}
 use Rattle.plant_laws.proofs.Numbering.Sends.{NoneAsks, Each}
 use Rattle.plant_laws.proofs.Runs.Rows as table
 use Rattle.plant_laws.proofs.WrittenForm.ReadBack.{standing_sent}
-use Rattle.plant_laws.proofs.Once.Opened.{AreSingle, set_pending}
+use Rattle.plant_laws.proofs.Once.Opened.{AreSingle, set_pending, puts_elements, puts_parent}
 use Rattle.plant_laws.proofs.Once.OpenedRuns.{lookup_in}
-use Rattle.plant_laws.proofs.Once.Answering.{puts_elements, puts_parent}
 use Rattle.plant_laws.proofs.Least.Subsides.{commit_subs}
 use Rattle.plant_laws.proofs.Once.Leaving as lower
 use Rattle.plant_laws.proofs.Once.Leaving.{was_in}

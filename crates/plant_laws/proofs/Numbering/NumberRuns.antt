@@ -4,7 +4,6 @@ use Rattle.std.proofs.Common.{◌≡◌, ◌⊎◌, ◌≤◌, ◌<◌, ℕ, suc
 use Rattle.std.proofs.lemmas.Bool.{cases_Bool}
 use Rattle.std.proofs.lemmas.List.Elements.{All-tail}
 use Rattle.plant_model.specs.Types.{As, Addr, Peer, Outside, Inner, Message, Asked, Wanted, Own, NetworkParts}
-use Rattle.te_links.specs.Rows.{Rows}
 use Rattle.pcep_messages.specs.declared.message.Message.TheVariants as messages
 use Rattle.pcep_session.specs.declared.actions.Own.TheVariants as own
 use Rattle.disclosure.specs.Shown.{open_of}
@@ -25,21 +24,18 @@ use Rattle.plant_text.specs.Settings.{Adjacency, class_of, adjacencies}
 use Rattle.plant_model.specs.declared.route.Route.{Route}
 use Rattle.plant_model.specs.Routes.{routes, toward}
 use Rattle.plant_model.specs.Settings.{place, family, inner_ways, outer_way, way, ways_along}
-use Rattle.plant_model.specs.State.{State, Loads, Pops, Takes, Says, Ups, Downs, Clears, Solves, Expires, Hands}
-use Rattle.plant_model.specs.Deeds.{Going, element_of, own_message, with_parent, with_element, puts, give, rise, fall}
+use Rattle.plant_model.specs.State.{State, Pops}
+use Rattle.plant_model.specs.Deeds.{own_message, with_parent, with_element}
 use Rattle.plant_model.specs.Events as events
-use Rattle.plant_model.specs.Plant.{Pin, Segment, first_pin, Plant, PlantDeed, Happened, Entry, Run, deeds_of, load_new, ElementSolves, ParentSolves}
+use Rattle.plant_model.specs.Plant.{Pin, Segment, first_pin, Plant, PlantDeed, Entry, Run, deeds_of}
 use Rattle.plant_laws.specs.Transcript.{Transcript, outputs_at, put_into, count_asks, asks}
 use Rattle.plant_laws.specs.About.{IsShort}
-use Rattle.plant_laws.proofs.Runs.Acts.{popped, Acts, rests, hears, carries, nods, hands, rises, falls, says, clears, expires}
 use Rattle.plant_laws.proofs.Runs.Queues.{same_as_is}
-use Rattle.plant_laws.proofs.Runs.Induction.{run_holds}
 use Rattle.plant_laws.proofs.Once.Handing.{IsAsk}
 use Rattle.plant_laws.proofs.Runs.Rows.{In}
 use Rattle.plant_laws.proofs.Numbering.Sends.{NoneAsks}
-use Rattle.plant_laws.proofs.Once.Takes.{IsSingle}
-use Rattle.plant_laws.proofs.Once.Opened.{AreSingle, puts_elements}
-use Rattle.plant_laws.proofs.Once.OpenedRuns.{give_single, fall_single, rise_single}
+use Rattle.plant_laws.proofs.Once.Opened.{AreSingle, puts_elements, single_deed}
+use Rattle.plant_laws.proofs.Once.DeedByDeed.{Does, takes_above, takes_below, downs_above, downs_below, ups_above, ups_below, solves_above, solves_below, pops, hands_out, says_own, clears_link, expires_at, loads_rows, run_singles}
 use Rattle.plant_laws.proofs.Least.Subsides.{commit_subs, downed_subs}
 use Rattle.plant_laws.proofs.Numbering.SentOn.{same_peer_is}
 use Rattle.plant_laws.proofs.Numbering.Numbers.{last, last_up, AtMost, fresh_is_next, most_before, wait_subs, Numbers, Goes, stays, take_numbers, commit_stays}
@@ -305,128 +301,56 @@ module _ (c : Codec) (codec : IsCodec c) (n : NetworkParts) where
       go true is = subst (λ (z : As). Numbers Pin Segment (IsKnown c) (s.elements z) (record { element = k; outputs = os })) (same_as_is at d is) one
       go false is = stays Pin Segment (IsKnown c) (s.elements d) [] tt
 
-  split : (ds : Transcript) (x : Bool) (g h : Going Pin Segment) → (x ≡ true → IsShort (g.deeds ++ ds) → AreLast (g.deeds ++ ds) g.state) → (x ≡ false → IsShort (h.deeds ++ ds) → AreLast (h.deeds ++ ds) h.state) →
-      IsShort ((cond x g h).deeds ++ ds) → AreLast ((cond x g h).deeds ++ ds) (cond x g h).state
-  split ds true g h up low = up refl
-  split ds false g h up low = low refl
-
-  give_last : (at : As) (p : Peer) (m : Message) (s : Core) (es ds : Transcript) → IsSingle m → AreLast (es ++ ds) s →
-      (let g = give Pin Segment c n open_of at p m (record { state = s; deeds = es }) in IsShort (g.deeds ++ ds) → AreLast (g.deeds ++ ds) g.state)
-  give_last at p m s es ds one old =
-      let r = parent.take c (family n) p m s.parent in
-      let t = take c open_of (place n at) (s.current at) p (class_of n p) s.clock m (s.elements at) in
-      let u = puts Pin Segment c n open_of at r.outputs (with_parent Pin Segment c n open_of r.parent s) in
-      let v = puts Pin Segment c n open_of at t.outputs (with_element Pin Segment c n open_of at t.element s) in
-      split ds (same_as at parent_as)
-      (record { state = u; deeds = Takes at p m r.outputs ∷ es })
-      (record { state = v; deeds = Takes at p m t.outputs ∷ es })
-      (λ up short. after (Takes at p m r.outputs) (es ++ ds) s u old short
-      (still (Takes at p m r.outputs) s u (puts_elements c n at r.outputs (with_parent Pin Segment c n open_of r.parent s)) (λ d low. above at d r.outputs up low)))
-      (λ low short. after (Takes at p m t.outputs) (es ++ ds) s v old short
-      (come (Takes at p m t.outputs) at t.outputs t.element s v (puts_elements c n at t.outputs (with_element Pin Segment c n open_of at t.element s)) (λ d. refl)
-      (take_numbers Pin Segment (IsKnown c) c open_of (place n at) (s.current at) p (class_of n p) s.clock (goes_known c codec (place n at).own (place n at).routes) m one (s.elements at))))
-
-  fall_last : (at : As) (p : Peer) (s : Core) (ds : Transcript) → AreLast ds s →
-      (let g = fall Pin Segment c n open_of at p (record { state = s; deeds = [] }) in IsShort (g.deeds ++ ds) → AreLast (g.deeds ++ ds) g.state)
-  fall_last at p s ds old =
-      let r = parent.downed p s.parent in
-      let t = downed p (s.elements at) in
-      let u = puts Pin Segment c n open_of at r.outputs (with_parent Pin Segment c n open_of r.parent s) in
-      let v = puts Pin Segment c n open_of at t.outputs (with_element Pin Segment c n open_of at t.element s) in
-      split ds (same_as at parent_as)
-      (record { state = u; deeds = Downs at p r.outputs ∷ [] })
-      (record { state = v; deeds = Downs at p t.outputs ∷ [] })
-      (λ up short. after (Downs at p r.outputs) ds s u old short
-      (still (Downs at p r.outputs) s u (puts_elements c n at r.outputs (with_parent Pin Segment c n open_of r.parent s)) (λ d low. above at d r.outputs up low)))
-      (λ low short. after (Downs at p t.outputs) ds s v old short
-      (come (Downs at p t.outputs) at t.outputs t.element s v (puts_elements c n at t.outputs (with_element Pin Segment c n open_of at t.element s)) (λ d. refl)
-      (inl (record {
-        lasts = λ q. last_up p q false (s.elements at).ways;
-        outs = lost_none (lost p (s.elements at).pending.rows);
-        rows = wait_subs Pin (s.elements at).pending.rows t.element.pending.rows (downed_subs Pin Segment p (s.elements at));
-      }))))
-
-  rise_last : (at : As) (p : Peer) (s : Core) (ds : Transcript) → AreLast ds s →
-      (let g = rise Pin Segment c n open_of at p (record { state = s; deeds = [] }) in IsShort (g.deeds ++ ds) → AreLast (g.deeds ++ ds) g.state)
-  rise_last at p s ds old =
-      let u = with_parent Pin Segment c n open_of (parent.upped p s.parent) s in
-      let v = with_element Pin Segment c n open_of at (upped p (s.elements at)) s in
-      split ds (same_as at parent_as)
-      (record { state = u; deeds = Ups at p ∷ [] })
-      (record { state = v; deeds = Ups at p ∷ [] })
-      (λ up short. after (Ups at p) ds s u old short (still (Ups at p) s u refl (λ d low. tt)))
-      (λ low short. after (Ups at p) ds s v old short
-      (come (Ups at p) at [] (upped p (s.elements at)) s v refl (λ d. nothing (same_as at d))
-      (inl (record { lasts = λ q. last_up p q true (s.elements at).ways; outs = tt; rows = λ h i. inl (h, i, refl) }))))
-    where
-      nothing : (b : Bool) → ◌≡◌ {A = List Output} [] (cond b [] [])
-      nothing true = refl
-      nothing false = refl
-
-  abbrev If : Transcript → Core → Type 0
-  If ds s = AreSingle ds → IsShort ds → AreLast ds s
-
   last_same : (ds : Transcript) (s t : Core) → t.elements ≡ s.elements → AreLast ds s → AreLast ds t
   last_same ds s t same old = subst (λ (f : As → Element Pin Segment). (d : As) → same_as d parent_as ≡ false → LastIs ds (f d) d × AreNumbered c d ds) (sym same) old
 
-  act_last : (ds : Transcript) (s t : Core) (es : Transcript) → If ds s → Acts Pin Segment c n open_of s es t → If (es ++ ds) t
-  act_last ds s t es held (rests s' t' same) single short = last_same ds s t same.elements (held single short)
-  act_last ds s t es held (hears i bytes m s' read) single short =
-      let x = give_single c n (element_of n i) (Outside i) m s [] ds single in
-      give_last (element_of n i) (Outside i) m s [] ds x.0 (held x.1 (short_back es ds short)) short
-  act_last ds s t es held (carries a b bytes rest m s' u is read same) single short =
-      let x = give_single c n b (Inner a) m u (Pops a b ∷ []) ds single in
-      let less = short_back es ds short in
-      let old = held x.1.1 less in
-      let p = popped Pin Segment c n open_of a b rest s in
-      let mid = after (Pops a b) ds s p old (short_pop a b ds less) (still (Pops a b) s p refl (λ d low. tt)) in
-      give_last b (Inner a) m u (Pops a b ∷ []) ds x.0 (last_same (Pops a b ∷ ds) p u same.elements mid) short
-  act_last ds s t es held (nods a b bytes rest s' is) single short = after (Pops a b) ds s t (held single.1 (short_tail (Pops a b) ds short)) short (still (Pops a b) s t refl (λ d low. tt))
-  act_last ds s t es held (hands i bytes s' t' same) single short =
-      after (Hands i bytes) ds s t (held single.1 (short_tail (Hands i bytes) ds short)) short (still (Hands i bytes) s t same.elements (λ d low. tt))
-  act_last ds s t es held (rises at p s') single short = rise_last at p s ds (held (rise_single c n at p s ds single) (short_back es ds short)) short
-  act_last ds s t es held (falls at p s') single short = fall_last at p s ds (held (fall_single c n at p s ds single) (short_back es ds short)) short
-  act_last ds s t es held (says at p o s') single short =
-      let out : Output = record { to = p; message = own_message o } in
-      after (Says at out) ds s t (held single.1 (short_tail (Says at out) ds short)) short
-      (still (Says at out) s t (puts_elements c n at (out ∷ []) s) (λ d low. cond_none (same_as at d) (out ∷ []) (own_none o, tt)))
-  act_last ds s t es held (clears x s') single short =
-      after (Clears x.lower x.upper) ds s t (held single.1 (short_tail (Clears x.lower x.upper) ds short)) short (still (Clears x.lower x.upper) s t refl (λ d low. tt))
-  act_last ds s t es held (expires now s') single short =
-      after (Expires now) ds s t (held single.1 (short_tail (Expires now) ds short)) short
-      (λ d low. inl (record { lasts = λ q. refl; outs = tt; rows = λ h i. inl (h, i, refl) }))
+  nothing : (b : Bool) → ◌≡◌ {A = List Output} [] (cond b [] [])
+  nothing true = refl
+  nothing false = refl
 
-  load_last : (ds : Transcript) (s : Plant) (d : As) (g : Rows) → If ds s → If (Loads d g ∷ ds) (load_new c n d g s).state
-  load_last ds s d g held single short =
-      after (Loads d g) ds s (load_new c n d g s).state (held single.1 (short_tail (Loads d g) ds short)) short
-      (λ d' low. inl (record { lasts = λ q. refl; outs = tt; rows = λ h i. inl (h, i, refl) }))
-
-  solve_last : (ds : Transcript) (s : Plant) (d : As) (k : ℕ) (h : Happened) → If ds s → ElementSolves c n d k s h → If (h.deeds ++ ds) h.state
-  solve_last ds s d k h held x =
+  steps : (s t : Core) (e : PlantDeed) → Does c n s e t → single_deed e → Step e s t
+  steps s t e (takes_above at p m s' up) one =
+      let r = parent.take c (family n) p m s.parent in
+      still e s t (puts_elements c n at r.outputs (with_parent Pin Segment c n open_of r.parent s)) (λ d low. above at d r.outputs up low)
+  steps s t e (takes_below at p m s' low heard) one =
+      let r = take c open_of (place n at) (s.current at) p (class_of n p) s.clock m (s.elements at) in
+      come e at r.outputs r.element s t (puts_elements c n at r.outputs (with_element Pin Segment c n open_of at r.element s)) (λ d. refl)
+      (take_numbers Pin Segment (IsKnown c) c open_of (place n at) (s.current at) p (class_of n p) s.clock (goes_known c codec (place n at).own (place n at).routes) m one (s.elements at))
+  steps s t e (downs_above at p s' up) one =
+      let r = parent.downed p s.parent in
+      still e s t (puts_elements c n at r.outputs (with_parent Pin Segment c n open_of r.parent s)) (λ d low. above at d r.outputs up low)
+  steps s t e (downs_below at p s' low) one =
+      let r = downed p (s.elements at) in
+      come e at r.outputs r.element s t (puts_elements c n at r.outputs (with_element Pin Segment c n open_of at r.element s)) (λ d. refl)
+      (inl (record {
+        lasts = λ q. last_up p q false (s.elements at).ways;
+        outs = lost_none (lost p (s.elements at).pending.rows);
+        rows = wait_subs Pin (s.elements at).pending.rows r.element.pending.rows (downed_subs Pin Segment p (s.elements at));
+      }))
+  steps s t e (ups_above at p s' up) one = still e s t refl (λ d low. tt)
+  steps s t e (ups_below at p s' low) one =
+      come e at [] (upped p (s.elements at)) s t refl (λ d. nothing (same_as at d)) (inl (record { lasts = λ q. last_up p q true (s.elements at).ways; outs = tt; rows = λ h i. inl (h, i, refl) }))
+  steps s t e (solves_above k h s' x) one =
+      let r = parent.commit c (k, x.held) x.answer s.parent in
+      still e s t (puts_elements c n parent_as r.outputs (with_parent Pin Segment c n open_of r.parent s)) (λ d low. above parent_as d r.outputs refl low)
+  steps s t e (solves_below d k h s' x) one =
       let r = commit c (place n d) (k, x.held) x.down s.clock (λ b. b.segment) (job_found x.rows.source_known x.rows.target_known x.rows.best) (s.elements d) in
-      let v = puts Pin Segment c n open_of d r.outputs (with_element Pin Segment c n open_of d r.element s) in
-      let e : PlantDeed = Solves d k r.outputs r.element.keys.issued in
       let stay = commit_stays Pin Segment (IsKnown c) c (place n d) (k, x.held) x.down s.clock (λ b. b.segment) x.rows.source_known x.rows.target_known x.rows.best (s.elements d) in
-      subst (λ (h' : Happened). If (h'.deeds ++ ds) h'.state) (sym x.is)
-      (λ single short.
-      after e ds s v (held single.1 (short_tail e ds short)) short
-      (come e d r.outputs r.element s v (puts_elements c n d r.outputs (with_element Pin Segment c n open_of d r.element s)) (λ d'. refl)
+      come e d r.outputs r.element s t (puts_elements c n d r.outputs (with_element Pin Segment c n open_of d r.element s)) (λ d'. refl)
       (inl (record {
         lasts = λ q. ap (λ (ws : List Way). last q ws) stay.0;
         outs = stay.1;
         rows = wait_subs Pin (s.elements d).pending.rows r.element.pending.rows
             (commit_subs Pin Segment c (place n d) (k, x.held) x.down s.clock (λ b. b.segment) x.rows.source_known x.rows.target_known x.rows.best (s.elements d));
-      }))))
-
-  upper_last : (ds : Transcript) (s : Plant) (k : ℕ) (h : Happened) → If ds s → ParentSolves c n k s h → If (h.deeds ++ ds) h.state
-  upper_last ds s k h held x =
-      let r = parent.commit c (k, x.held) x.answer s.parent in
-      let v = puts Pin Segment c n open_of parent_as r.outputs (with_parent Pin Segment c n open_of r.parent s) in
-      let e : PlantDeed = Solves parent_as k r.outputs [] in
-      subst (λ (h' : Happened). If (h'.deeds ++ ds) h'.state) (sym x.is)
-      (λ single short.
-      after e ds s v (held single.1 (short_tail e ds short)) short
-      (still e s v (puts_elements c n parent_as r.outputs (with_parent Pin Segment c n open_of r.parent s)) (λ d low. above parent_as d r.outputs refl low)))
+      }))
+  steps s t e (pops a b rest s') one = still e s t refl (λ d low. tt)
+  steps s t e (hands_out i bytes s') one = still e s t refl (λ d low. tt)
+  steps s t e (says_own at p o s') one =
+      let out : Output = record { to = p; message = own_message o } in
+      still e s t (puts_elements c n at (out ∷ []) s) (λ d low. cond_none (same_as at d) (out ∷ []) (own_none o, tt))
+  steps s t e (clears_link x s') one = still e s t refl (λ d low. tt)
+  steps s t e (expires_at now s') one = λ d low. inl (record { lasts = λ q. refl; outs = tt; rows = λ h i. inl (h, i, refl) })
+  steps s t e (loads_rows d g s') one = λ d' low. inl (record { lasts = λ q. refl; outs = tt; rows = λ h i. inl (h, i, refl) })
 
   none_yet : (d b : As) (xs : List Adjacency) → last (Inner b) (ways_along d xs) ≡ 0
   none_yet d b [] = refl
@@ -456,9 +380,14 @@ module _ (c : Codec) (codec : IsCodec c) (n : NetworkParts) where
       go true more none' = none'
       go false more none' = more none'
 
-  bare_last : If [] (events.bare Pin Segment c n open_of first_pin)
+  abbrev IfShort : Transcript → Core → Type 0
+  IfShort ds s = IsShort ds → AreLast ds s
+
+  bare_last : AreSingle [] → IfShort [] (events.bare Pin Segment c n open_of first_pin)
   bare_last single short d low = (λ b. (none_behind b (inner_ways n d) (routes n d) (none_yet d b (adjacencies n)), λ h none. absurd none), tt)
 
   -- As long as no id comes round.
   pub run_last : (es : List Entry) (s : Plant) → Run c n es s → AreSingle (deeds_of c n es) → IsShort (deeds_of c n es) → AreLast (deeds_of c n es) s
-  run_last = run_holds c n If bare_last act_last (λ ds s d g given held. load_last ds s d g held) solve_last upper_last
+  run_last =
+      run_singles c n IfShort (λ ds s t elements parent' current held short. last_same ds s t elements (held short))
+      (λ ds s t e does one held short. after e ds s t (held (short_tail e ds short)) short (steps s t e does one)) bare_last

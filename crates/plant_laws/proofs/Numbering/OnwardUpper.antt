@@ -20,8 +20,7 @@ use Rattle.plant_laws.proofs.Runs.Decompose.{nil_right}
 use Rattle.plant_laws.proofs.Once.Handing.{In, IsAsk}
 use Rattle.plant_laws.proofs.Numbering.Sends.{NoneAsks}
 use Rattle.plant_laws.proofs.Once.CountingUpper.{waiting_in}
-use Rattle.plant_laws.proofs.Once.RowCounts.{ended_pending, item_pending}
-use Rattle.plant_laws.proofs.Numbering.Taken.{above}
+use Rattle.plant_laws.proofs.Once.RowCounts.{above, ended_pending, item_pending}
 use Rattle.plant_laws.proofs.Numbering.TakenUpper.{count_waits}
 use Rattle.plant_laws.proofs.Once.Takes.{IsSingle}
 use Rattle.plant_laws.proofs.Numbering.Onward.{none_append}

@@ -1,6 +1,6 @@
 -- What deeds send: a solve one message, and an element that takes a message at most one that asks.
 use Rattle.std.proofs.Common.{◌≡◌, ◌≢◌, ◌⊎◌, ◌≤◌, ◌==◌, ℕ, Bool, true, false, cond, List, [], ◌∷◌, ◌++◌, length, map, Option, Some, None, sym, subst, inl, inr, refl, arith}
-use Rattle.plant_model.specs.Types.{As, Peer, Outside, Inner, Hop, Answer, Message, Reply, Wanted, Wish, Class, Best, Branch, NetworkParts}
+use Rattle.plant_model.specs.Types.{As, Peer, Inner, Hop, Answer, Message, Reply, Wanted, Wish, Class, Best, Branch, NetworkParts}
 use Rattle.pcep_messages.specs.declared.message.Answer.TheVariants.{Paths, NoPath}
 use Rattle.pcep_messages.specs.declared.message.Message.TheVariants as messages
 use Rattle.pcep_messages.specs.declared.message.Wish.TheVariants.{Path, Expand}
@@ -12,7 +12,7 @@ use Rattle.plant_text.specs.Names.{same_as, parent_as}
 use Rattle.plant_model.specs.Names.{has_pair, the_parent}
 use Rattle.plant_model.specs.Wire.{Codec, Checked, Admitted, Wrong}
 use Rattle.disclosure.specs.Policy.{is_denied}
-use Rattle.plant_model.specs.Element.{Element, Row, Way, ElementSettings, Taken, each, way_to, is_client, lost, lost_output, downed, waiting, upped}
+use Rattle.plant_model.specs.Element.{Element, Row, Way, ElementSettings, Taken, each, way_to, is_client, lost, lost_output, waiting}
 use Rattle.plant_model.specs.Routes.{toward}
 use Rattle.plant_model.specs.Taking.{take, take_asked, take_checked, take_new, take_wish, take_path, take_along, send_on, sequence_or, goes_up, take_reply, take_answer, made_ready, take_notice, notice_steps, take_busy, take_cancel, told_busy, cancelled, take_report, take_errors, take_failure, told_error, error_answer, sight, wanting}
 use Rattle.plant_model.specs.Writing.{error_message, reply_message, unavailable}
@@ -20,16 +20,14 @@ use Rattle.plant_model.specs.Solving.{commit, closed_reply, job_found}
 use Rattle.plant_model.specs.Parent as parent
 use Rattle.plant_model.specs.BorderGraph.{Found}
 use Rattle.plant_text.specs.Settings.{class_of}
-use Rattle.plant_model.specs.Settings.{place, family}
+use Rattle.plant_model.specs.Settings.{place}
 use Rattle.plant_model.specs.State.{State, Deed, Loads, Pops, Takes, Says, Ups, Downs, Clears, Solves, Expires, Hands}
-use Rattle.plant_model.specs.Deeds.{Going, element_of, with_parent, with_element, puts, give, rise, fall}
-use Rattle.plant_model.specs.Plant.{Pin, Segment, Plant, Happened, Entry, Run, deeds_of, ElementSolves, ParentSolves}
+use Rattle.plant_model.specs.Plant.{Pin, Segment, Plant, Entry, Run, deeds_of, PlantDeed}
 use Rattle.plant_laws.specs.Transcript.{Transcript, Within, put_into}
-use Rattle.plant_laws.proofs.Runs.Acts.{Acts, rests, hears, carries, nods, hands, rises, falls, says, clears, expires}
 use Rattle.plant_laws.specs.Replies.{SolvesSendOne}
 use Rattle.plant_laws.proofs.Runs.Decompose.{nil_right}
-use Rattle.plant_laws.proofs.Runs.Induction.{run_holds}
 use Rattle.plant_laws.proofs.Runs.Queues.{same_as_is}
+use Rattle.plant_laws.proofs.Once.DeedByDeed.{Does, takes_above, takes_below, downs_above, downs_below, ups_above, ups_below, solves_above, solves_below, pops, hands_out, says_own, clears_link, expires_at, loads_rows, run_keeps}
 use Rattle.plant_laws.proofs.Once.Handing.{IsAsk, AskFree, IsTerse}
 use Rattle.plant_laws.proofs.Once.Takes.{IsSingle}
 
@@ -228,71 +226,27 @@ Each-within Q (f ∷ now) all e older (inl same) = let is : e ≡ f = cc in subs
 Each-within Q (f ∷ now) all e older (inr w) = Each-within Q now all.1 e older w
 
 module _ (c : Codec) (n : NetworkParts) where
-  abbrev AllSpare : Transcript → Type 0
-  AllSpare ds = Each IsSparing ds
-
-  sparing_pick : (ds : Transcript) (b : Bool) (g h : Going Pin Segment) → (b ≡ true → AllSpare (g.deeds ++ ds)) → (b ≡ false → AllSpare (h.deeds ++ ds)) → AllSpare ((cond b g h).deeds ++ ds)
-  sparing_pick ds true g h x y = x refl
-  sparing_pick ds false g h x y = y refl
-
   not_parent : (at : As) → same_as at parent_as ≡ true → at ≢ parent_as → ⊥
   not_parent at is other = other (same_as_is at parent_as is)
 
-  give_spares : (at : As) (p : Peer) (m : Message) (s : State Pin Segment) (es ds : Transcript) → AllSpare (es ++ ds) →
-      AllSpare ((give Pin Segment c n open_of at p m (record { state = s; deeds = es })).deeds ++ ds)
-  give_spares at p m s es ds all =
-      let r = parent.take c (family n) p m s.parent in
-      let t = take c open_of (place n at) (s.current at) p (class_of n p) s.clock m (s.elements at) in
-      sparing_pick ds (same_as at parent_as)
-      (record { state = puts Pin Segment c n open_of at r.outputs (with_parent Pin Segment c n open_of r.parent s); deeds = Takes at p m r.outputs ∷ es })
-      (record { state = puts Pin Segment c n open_of at t.outputs (with_element Pin Segment c n open_of at t.element s); deeds = Takes at p m t.outputs ∷ es })
-      (λ is. ((λ other. absurd (not_parent at is other)), all))
-      (λ is. ((λ other one. take_terse Pin Segment c open_of (place n at) (s.current at) p (class_of n p) s.clock m (s.elements at) one), all))
-
-  fall_spares : (at : As) (p : Peer) (s : State Pin Segment) (ds : Transcript) → AllSpare ds →
-      AllSpare ((fall Pin Segment c n open_of at p (record { state = s; deeds = [] })).deeds ++ ds)
-  fall_spares at p s ds all =
-      let r = parent.downed p s.parent in
-      let t = downed p (s.elements at) in
-      sparing_pick ds (same_as at parent_as)
-      (record { state = puts Pin Segment c n open_of at r.outputs (with_parent Pin Segment c n open_of r.parent s); deeds = Downs at p r.outputs ∷ [] })
-      (record { state = puts Pin Segment c n open_of at t.outputs (with_element Pin Segment c n open_of at t.element s); deeds = Downs at p t.outputs ∷ [] })
-      (λ is. ((λ other. absurd (not_parent at is other)), all))
-      (λ is. ((λ other. lost_none (lost p (s.elements at).pending.rows)), all))
-
-  rise_spares : (at : As) (p : Peer) (s : State Pin Segment) (ds : Transcript) → AllSpare ds →
-      AllSpare ((rise Pin Segment c n open_of at p (record { state = s; deeds = [] })).deeds ++ ds)
-  rise_spares at p s ds all =
-      sparing_pick ds (same_as at parent_as)
-      (record { state = with_parent Pin Segment c n open_of (parent.upped p s.parent) s; deeds = Ups at p ∷ [] })
-      (record { state = with_element Pin Segment c n open_of at (upped p (s.elements at)) s; deeds = Ups at p ∷ [] })
-      (λ is. (tt, all)) (λ is. (tt, all))
-
-  act_spares : (ds : Transcript) (s t : State Pin Segment) (es : Transcript) → AllSpare ds → Acts Pin Segment c n open_of s es t → AllSpare (es ++ ds)
-  act_spares ds s t es all (rests s' t' same) = all
-  act_spares ds s t es all (hears i bytes m s' read) = give_spares (element_of n i) (Outside i) m s [] ds all
-  act_spares ds s t es all (carries a b bytes rest m s' u is read same) = give_spares b (Inner a) m u (Pops a b ∷ []) ds (tt, all)
-  act_spares ds s t es all (nods a b bytes rest s' is) = (tt, all)
-  act_spares ds s t es all (hands i bytes s' t' same) = (tt, all)
-  act_spares ds s t es all (rises at p s') = rise_spares at p s ds all
-  act_spares ds s t es all (falls at p s') = fall_spares at p s ds all
-  act_spares ds s t es all (says at p o s') = (tt, all)
-  act_spares ds s t es all (clears x s') = (tt, all)
-  act_spares ds s t es all (expires now s') = (tt, all)
-
-  abbrev SpareIn : Transcript → Plant → Type 0
-  SpareIn ds s = AllSpare ds
-
-  solve_spares : (ds : Transcript) (s : Plant) (d : As) (k : ℕ) (h : Happened) → SpareIn ds s → ElementSolves c n d k s h → SpareIn (h.deeds ++ ds) h.state
-  solve_spares ds s d k h all x =
-      subst (λ (h' : Happened). AllSpare (h'.deeds ++ ds)) (sym x.is)
-      (commit_one c (place n d) (k, x.held) x.down s.clock (λ b. b.segment) x.rows.source_known x.rows.target_known x.rows.best (s.elements d), all)
-
-  upper_spares : (ds : Transcript) (s : Plant) (k : ℕ) (h : Happened) → SpareIn ds s → ParentSolves c n k s h → SpareIn (h.deeds ++ ds) h.state
-  upper_spares ds s k h all x = subst (λ (h' : Happened). AllSpare (h'.deeds ++ ds)) (sym x.is) (upper_one c (k, x.held) x.answer s.parent, all)
+  does_spare : (s t : State Pin Segment) (e : PlantDeed) → Does c n s e t → IsSparing e
+  does_spare s t e (takes_above at p m s' up) = λ other. absurd (not_parent at up other)
+  does_spare s t e (takes_below at p m s' low heard) = λ other one. take_terse Pin Segment c open_of (place n at) (s.current at) p (class_of n p) s.clock m (s.elements at) one
+  does_spare s t e (downs_above at p s' up) = λ other. absurd (not_parent at up other)
+  does_spare s t e (downs_below at p s' low) = λ other. lost_none (lost p (s.elements at).pending.rows)
+  does_spare s t e (ups_above at p s' up) = tt
+  does_spare s t e (ups_below at p s' low) = tt
+  does_spare s t e (solves_above k h s' x) = upper_one c (k, x.held) x.answer s.parent
+  does_spare s t e (solves_below d k h s' x) = commit_one c (place n d) (k, x.held) x.down s.clock (λ b. b.segment) x.rows.source_known x.rows.target_known x.rows.best (s.elements d)
+  does_spare s t e (pops a b rest s') = tt
+  does_spare s t e (hands_out i bytes s') = tt
+  does_spare s t e (says_own at p o s') = tt
+  does_spare s t e (clears_link x s') = tt
+  does_spare s t e (expires_at now s') = tt
+  does_spare s t e (loads_rows d g s') = tt
 
   pub run_spares : (es : List Entry) (s : Plant) → Run c n es s → Each IsSparing (deeds_of c n es)
-  run_spares = run_holds c n SpareIn tt (λ ds s t es all act. act_spares ds s t es all act) (λ ds s d g given all. (tt, all)) solve_spares upper_spares
+  run_spares = run_keeps c n (λ ds s. Each IsSparing ds) (λ ds s t elements above current all. all) (λ ds s t e does all. (does_spare s t e does, all)) tt
 
 pub solves_send_one : SolvesSendOne
 solves_send_one c n es s run d k os keys older w = Each-within IsSparing (deeds_of c n es) (run_spares c n es s run) (Solves d k os keys) older w

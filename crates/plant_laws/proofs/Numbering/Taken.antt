@@ -1,6 +1,6 @@
 -- What an element does with a message of the next element, or of one that asks it: nothing waits for an answer once it is taken,
 -- and a request that is taken is pending or answered.
-use Rattle.std.proofs.Common.{◌≡◌, ◌⊎◌, ◌+◌, ◌<◌, ◌==◌, nat_eq, ℕ, Bool, true, false, cond, List, [], ◌∷◌, Option, Some, None, sym, ◌∙◌, ap, subst, inl, inr, refl, arith}
+use Rattle.std.proofs.Common.{◌≡◌, ◌⊎◌, ◌+◌, ◌==◌, nat_eq, ℕ, Bool, true, false, cond, List, [], ◌∷◌, Option, Some, None, sym, ◌∙◌, ap, subst, inl, inr, refl, arith}
 use Rattle.std.specs.Map.{remove_entry}
 use Rattle.std.proofs.lemmas.Bool.{eqb-true, eq-eqb}
 use Rattle.plant_model.specs.Types.{As, Peer, Outside, Inner, Hop, Asked, Answer, Message, Wanted, Class, Branch, Held}
@@ -17,6 +17,7 @@ use Rattle.disclosure.specs.Policy.{is_denied}
 use Rattle.plant_model.specs.Element.{Stage, Waits, Ready, Element, Item, Row, Way, ElementSettings, Taken, silent, only, is_client, way_to, waiting, waits_for, at_stage, fresh_id, with_last}
 use Rattle.plant_model.specs.Routes.{toward}
 use Rattle.plant_model.specs.Taking.{take, take_asked, take_checked, take_new, take_path, take_along, send_on, item_of, sequence_or, goes_up, answered, staged, take_answer, made_ready, told_busy, take_failure, sight, wanting}
+use Rattle.plant_laws.proofs.Once.RowCounts.{above}
 use Rattle.plant_laws.proofs.Once.Handing.{In}
 use Rattle.plant_laws.proofs.Once.Counting.{waiting_in}
 use Rattle.plant_laws.proofs.Once.Leaving.{In-back, was_in, written_in, Answered, answer_there, reply_answers, busy_answers, Named, WaitsFor}
@@ -30,11 +31,6 @@ peer_is (Inner a) (Inner b) e = ap (λ (n : ℕ). let number : As = record { 0 =
 pub peer_self : (p : Peer) → same_peer p p ≡ true
 peer_self (Outside a) = eq-eqb a a refl
 peer_self (Inner a) = eq-eqb a.0 a.0 refl
-
-pub above : {T : Type 0} (low high : ℕ) (rows : List (ℕ × Held T)) (h : ℕ × Held T) → NumbersRise low rows high → In h rows → low < h.0
-above low high [] h up in' = absurd in'
-above {T} low high (row ∷ rows) h up (inl is) = subst (λ (r : ℕ × Held T). low < r.0) (sym is) up.0
-above low high (row ∷ rows) h up (inr in') = omega (arith, up.0, above row.0 high rows h up.1 in')
 
 -- a row that was taken away is there no more
 pub gone_from : {T : Type 0} (low high number : ℕ) (rows : List (ℕ × Held T)) (g : ℕ × Held T) → NumbersRise low rows high → In g (remove_entry (nat_eq number) rows) → g.0 ≡ number → ⊥

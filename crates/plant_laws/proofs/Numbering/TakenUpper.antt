@@ -16,10 +16,11 @@ use Rattle.plant_model.specs.Branches.{branches_in}
 use Rattle.plant_model.specs.Element.{lost_output}
 use Rattle.plant_model.specs.Parent.{Wait, Asking, AskingRow, Parent, Family, ParentTaken, only, errands, ask_all, all_waits, among, waiting, without, all_up, take, take_asked, take_checked, take_new, take_path, answered, gathered, gathers, take_answer, take_found, told_busy, take_failure, any_on, stays, is_lost, lost, lost_of, downed}
 use Rattle.plant_laws.specs.Transcript.{one_if}
+use Rattle.plant_laws.proofs.Once.RowCounts.{above}
 use Rattle.plant_laws.proofs.Once.Handing.{In}
 use Rattle.plant_laws.proofs.Once.CountingUpper.{waiting_in}
 use Rattle.plant_laws.proofs.Once.Leaving.{In-back, Answered, answer_there, reply_answers, busy_answers, by_refusal}
-use Rattle.plant_laws.proofs.Numbering.Taken.{above, peer_self}
+use Rattle.plant_laws.proofs.Numbering.Taken.{peer_self}
 use Rattle.plant_laws.proofs.Once.LeavingUpper.{Named, WaitsFor, Moves}
 
 -- how many wait for the answer to an id

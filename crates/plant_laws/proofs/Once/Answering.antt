@@ -1,5 +1,5 @@
 -- Each request is answered once, if what is pending is what the transcript shows open.
-use Rattle.std.proofs.Common.{◌≡◌, ◌≢◌, ◌⊎◌, ◌≤◌, ◌<◌, ◌==◌, ℕ, zero, suc, Bool, true, false, cond, List, [], ◌∷◌, ◌++◌, length, Option, Some, None, sym, ◌∙◌, ap, subst, inl, inr, refl, arith}
+use Rattle.std.proofs.Common.{◌≡◌, ◌≢◌, ◌⊎◌, ◌≤◌, ◌<◌, ◌==◌, ℕ, zero, suc, Bool, true, false, cond, List, [], ◌∷◌, length, Option, Some, None, sym, ◌∙◌, ap, subst, inl, inr, refl, arith}
 use Rattle.std.proofs.lemmas.Bool.{cases_Bool, eqb-true}
 use Rattle.plant_model.specs.Types.{As, Peer, Outside, Inner, Asked, Message, Wish, NetworkParts}
 use Rattle.pcep_messages.specs.declared.message.Message.TheVariants as messages
@@ -8,7 +8,7 @@ use Rattle.disclosure.specs.Shown.{open_of}
 use Rattle.request_table.specs.Pending.{ArePending, same_peer}
 use Rattle.plant_model.specs.declared.output.Output.{Output}
 use Rattle.plant_text.specs.Names.{same_as, parent_as}
-use Rattle.plant_model.specs.Wire.{Bytes, Codec, Checked, Admitted, Wrong}
+use Rattle.plant_model.specs.Wire.{Codec, Checked, Admitted, Wrong}
 use Rattle.plant_model.specs.Element.{Element, upped, downed}
 use Rattle.plant_model.specs.Taking.{take}
 use Rattle.plant_model.specs.Solving.{commit, job_found}
@@ -16,16 +16,16 @@ use Rattle.plant_model.specs.Parent as parent
 use Rattle.plant_text.specs.Settings.{class_of}
 use Rattle.plant_model.specs.Settings.{place, family}
 use Rattle.plant_model.specs.State.{State, Deed, Loads, Pops, Takes, Says, Ups, Downs, Clears, Solves, Expires, Hands}
-use Rattle.plant_model.specs.Deeds.{Going, element_of, own_message, with_parent, with_element, put, put_to, puts, give, rise, fall}
-use Rattle.plant_model.specs.Plant.{Pin, Segment, Plant, Happened, Entry, Run, deeds_of, ElementSolves, ParentSolves}
+use Rattle.plant_model.specs.Deeds.{own_message, with_parent, with_element, puts}
+use Rattle.plant_model.specs.Plant.{Pin, Segment, Plant, Entry, Run, deeds_of, PlantDeed}
 use Rattle.plant_laws.specs.Transcript.{Transcript, Within, opened, after, effect, Effect, Keeps, Ends, Begins, ends_if, asks_effect, begins_if, begins, take_effect, cancels, answers_to}
-use Rattle.plant_laws.proofs.Runs.Acts.{Acts, rests, hears, carries, nods, hands, rises, falls, says, clears, expires}
+use Rattle.plant_laws.proofs.Once.DeedByDeed.{Does, takes_above, takes_below, downs_above, downs_below, ups_above, ups_below, solves_above, solves_below, pops, hands_out, says_own, clears_link, expires_at, loads_rows, run_keeps}
+use Rattle.plant_laws.proofs.Once.Opened.{puts_elements, puts_parent}
 use Rattle.plant_laws.specs.Chains.{is_pending}
 use Rattle.plant_laws.specs.Runs.{InRuns}
 use Rattle.plant_laws.specs.Answered.{answers_of, AnswersFor, of_open, DropsFor, cancelled, went_down, IsEnd, pending, answered, dropped, IsAnsweredOnce, RequestsAreAnsweredOnceIn}
 use Rattle.plant_laws.proofs.Once.Besides.{besides_asking, answers_in, own_none, no_more}
 use Rattle.plant_laws.proofs.Once.Founded.{IsFounded, AreFounded, founded_within, run_founded}
-use Rattle.plant_laws.proofs.Runs.Induction.{run_holds}
 use Rattle.plant_laws.proofs.WrittenForm.RequestsWritten.{requests_are_single}
 use Rattle.plant_laws.proofs.Runs.Queues.{same_as_is}
 use Rattle.plant_laws.proofs.Once.Handing.{Within-length}
@@ -59,22 +59,6 @@ pub record InOrder (s : State Pin Segment) : Type 0 where
   pub parent : ArePending s.parent.pending
 
 module _ (c : Codec) (n : NetworkParts) where
-  put_elements : (at : As) (bytes : Bytes) (s : State Pin Segment) (to : Peer) → (put_to Pin Segment c n open_of at bytes s to).elements ≡ s.elements
-  put_elements at bytes s (Outside i) = refl
-  put_elements at bytes s (Inner b) = refl
-
-  put_parent : (at : As) (bytes : Bytes) (s : State Pin Segment) (to : Peer) → (put_to Pin Segment c n open_of at bytes s to).parent ≡ s.parent
-  put_parent at bytes s (Outside i) = refl
-  put_parent at bytes s (Inner b) = refl
-
-  pub puts_elements : (at : As) (os : List Output) (s : State Pin Segment) → (puts Pin Segment c n open_of at os s).elements ≡ s.elements
-  puts_elements at [] s = refl
-  puts_elements at (o ∷ os) s = puts_elements at os (put Pin Segment c n open_of at o s) ∙ put_elements at (c.text o.message) s o.to
-
-  pub puts_parent : (at : As) (os : List Output) (s : State Pin Segment) → (puts Pin Segment c n open_of at os s).parent ≡ s.parent
-  puts_parent at [] s = refl
-  puts_parent at (o ∷ os) s = puts_parent at os (put Pin Segment c n open_of at o s) ∙ put_parent at (c.text o.message) s o.to
-
   abbrev Kept : Transcript → State Pin Segment → Type 0
   Kept ds s = InOrder s × Each IsFairDeed ds
 
@@ -93,91 +77,52 @@ module _ (c : Codec) (n : NetworkParts) where
       go d false = order.elements d
 
   sent_order : (at : As) (os : List Output) (t : State Pin Segment) → InOrder t → InOrder (puts Pin Segment c n open_of at os t)
-  sent_order at os t order = order_same t (puts Pin Segment c n open_of at os t) (puts_elements at os t) (puts_parent at os t) order
+  sent_order at os t order = order_same t (puts Pin Segment c n open_of at os t) (puts_elements c n at os t) (puts_parent c n at os t) order
 
-  kept_pick : (ds : Transcript) (b : Bool) (g h : Going Pin Segment) → Kept (g.deeds ++ ds) g.state → Kept (h.deeds ++ ds) h.state → Kept ((cond b g h).deeds ++ ds) (cond b g h).state
-  kept_pick ds true g h x y = x
-  kept_pick ds false g h x y = y
-
-  give_kept : (at : As) (p : Peer) (m : Message) (s : State Pin Segment) (es ds : Transcript) → Kept (es ++ ds) s →
-      (let g = give Pin Segment c n open_of at p m (record { state = s; deeds = es }) in Kept (g.deeds ++ ds) g.state)
-  give_kept at p m s es ds kept =
+  does_keep : (s t : State Pin Segment) (e : PlantDeed) → Does c n s e t → InOrder s → InOrder t × IsFairDeed e
+  does_keep s t e (takes_above at p m s' up) order =
       let r = parent.take c (family n) p m s.parent in
-      let t = take c open_of (place n at) (s.current at) p (class_of n p) s.clock m (s.elements at) in
-      let u = with_parent Pin Segment c n open_of r.parent s in
-      let v = with_element Pin Segment c n open_of at t.element s in
-      let fair = upper.take_fair c p (family n) m s.parent kept.0.parent in
-      let fair' = counting.take_fair Pin Segment c p open_of (place n at) (s.current at) (class_of n p) s.clock m (s.elements at) (kept.0.elements at) in
-      kept_pick ds (same_as at parent_as)
-      (record { state = puts Pin Segment c n open_of at r.outputs u; deeds = Takes at p m r.outputs ∷ es })
-      (record { state = puts Pin Segment c n open_of at t.outputs v; deeds = Takes at p m t.outputs ∷ es })
-      (sent_order at r.outputs u (record { elements = kept.0.elements; parent = fair.0 }), (fair.1, kept.1))
-      (sent_order at t.outputs v (with_one at t.element s fair'.0 kept.0), (fair'.1, kept.1))
-
-  fall_kept : (at : As) (p : Peer) (s : State Pin Segment) (ds : Transcript) → Kept ds s →
-      (let g = fall Pin Segment c n open_of at p (record { state = s; deeds = [] }) in Kept (g.deeds ++ ds) g.state)
-  fall_kept at p s ds kept =
+      let fair = upper.take_fair c p (family n) m s.parent order.parent in
+      (sent_order at r.outputs (with_parent Pin Segment c n open_of r.parent s) (record { elements = order.elements; parent = fair.0 }), fair.1)
+  does_keep s t e (takes_below at p m s' low heard) order =
+      let r = take c open_of (place n at) (s.current at) p (class_of n p) s.clock m (s.elements at) in
+      let fair = counting.take_fair Pin Segment c p open_of (place n at) (s.current at) (class_of n p) s.clock m (s.elements at) (order.elements at) in
+      (sent_order at r.outputs (with_element Pin Segment c n open_of at r.element s) (with_one at r.element s fair.0 order), fair.1)
+  does_keep s t e (downs_above at p s' up) order =
       let r = parent.downed p s.parent in
-      let t = downed p (s.elements at) in
-      let u = with_parent Pin Segment c n open_of r.parent s in
-      let v = with_element Pin Segment c n open_of at t.element s in
-      let fair = upper.downed_once p s.parent kept.0.parent in
-      let fair' = counting.downed_once Pin Segment p (s.elements at) (kept.0.elements at) in
-      kept_pick ds (same_as at parent_as)
-      (record { state = puts Pin Segment c n open_of at r.outputs u; deeds = Downs at p r.outputs ∷ [] })
-      (record { state = puts Pin Segment c n open_of at t.outputs v; deeds = Downs at p t.outputs ∷ [] })
-      (sent_order at r.outputs u (record { elements = kept.0.elements; parent = fair.0 }), (fair.1, kept.1))
-      (sent_order at t.outputs v (with_one at t.element s fair'.0 kept.0), (fair'.1, kept.1))
-
-  rise_kept : (at : As) (p : Peer) (s : State Pin Segment) (ds : Transcript) → Kept ds s →
-      (let g = rise Pin Segment c n open_of at p (record { state = s; deeds = [] }) in Kept (g.deeds ++ ds) g.state)
-  rise_kept at p s ds kept =
-      kept_pick ds (same_as at parent_as)
-      (record { state = with_parent Pin Segment c n open_of (parent.upped p s.parent) s; deeds = Ups at p ∷ [] })
-      (record { state = with_element Pin Segment c n open_of at (upped p (s.elements at)) s; deeds = Ups at p ∷ [] })
-      (record { elements = kept.0.elements; parent = kept.0.parent }, (tt, kept.1))
-      (with_one at (upped p (s.elements at)) s (kept.0.elements at) kept.0, (tt, kept.1))
-
-  act_kept : (ds : Transcript) (s t : State Pin Segment) (es : Transcript) → Kept ds s → Acts Pin Segment c n open_of s es t → Kept (es ++ ds) t
-  act_kept ds s t es kept (rests s' t' same) = (order_same s t same.elements same.parent kept.0, kept.1)
-  act_kept ds s t es kept (hears i bytes m s' read) = give_kept (element_of n i) (Outside i) m s [] ds kept
-  act_kept ds s t es kept (carries a b bytes rest m s' u is read same) =
-      give_kept b (Inner a) m u (Pops a b ∷ []) ds (order_same s u same.elements same.parent kept.0, (tt, kept.1))
-  act_kept ds s t es kept (nods a b bytes rest s' is) = (record { elements = kept.0.elements; parent = kept.0.parent }, (tt, kept.1))
-  act_kept ds s t es kept (hands i bytes s' t' same) = (order_same s t same.elements same.parent kept.0, (tt, kept.1))
-  act_kept ds s t es kept (rises at p s') = rise_kept at p s ds kept
-  act_kept ds s t es kept (falls at p s') = fall_kept at p s ds kept
-  act_kept ds s t es kept (says at p o s') = (sent_order at (record { to = p; message = own_message o } ∷ []) s kept.0, (own_none p o, kept.1))
-  act_kept ds s t es kept (clears x s') = (record { elements = kept.0.elements; parent = kept.0.parent }, (tt, kept.1))
-  act_kept ds s t es kept (expires now s') = (record { elements = kept.0.elements; parent = kept.0.parent }, (tt, kept.1))
-
-  abbrev KeptIn : Transcript → Plant → Type 0
-  KeptIn ds s = Kept ds s
-
-  solve_kept : (ds : Transcript) (s : Plant) (d : As) (k : ℕ) (h : Happened) → KeptIn ds s → ElementSolves c n d k s h → KeptIn (h.deeds ++ ds) h.state
-  solve_kept ds s d k h kept x =
-      let r = commit c (place n d) (k, x.held) x.down s.clock (λ b. b.segment) (job_found x.rows.source_known x.rows.target_known x.rows.best) (s.elements d) in
-      let once = counting.commit_once Pin Segment c (place n d) (k, x.held) x.down s.clock (λ b. b.segment) x.rows.source_known x.rows.target_known x.rows.best (s.elements d) (kept.0.elements d) in
-      subst (λ (h' : Happened). KeptIn (h'.deeds ++ ds) h'.state) (sym x.is)
-      (sent_order d r.outputs (with_element Pin Segment c n open_of d r.element s) (with_one d r.element s once.0 kept.0), (once.1, kept.1))
-
-  upper_kept : (ds : Transcript) (s : Plant) (k : ℕ) (h : Happened) → KeptIn ds s → ParentSolves c n k s h → KeptIn (h.deeds ++ ds) h.state
-  upper_kept ds s k h kept x =
+      let fair = upper.downed_once p s.parent order.parent in
+      (sent_order at r.outputs (with_parent Pin Segment c n open_of r.parent s) (record { elements = order.elements; parent = fair.0 }), fair.1)
+  does_keep s t e (downs_below at p s' low) order =
+      let r = downed p (s.elements at) in
+      let fair = counting.downed_once Pin Segment p (s.elements at) (order.elements at) in
+      (sent_order at r.outputs (with_element Pin Segment c n open_of at r.element s) (with_one at r.element s fair.0 order), fair.1)
+  does_keep s t e (ups_above at p s' up) order = (record { elements = order.elements; parent = order.parent }, tt)
+  does_keep s t e (ups_below at p s' low) order = (with_one at (upped p (s.elements at)) s (order.elements at) order, tt)
+  does_keep s t e (solves_above k h s' x) order =
       let r = parent.commit c (k, x.held) x.answer s.parent in
-      let once = upper.commit_once c (k, x.held) x.answer s.parent kept.0.parent in
-      subst (λ (h' : Happened). KeptIn (h'.deeds ++ ds) h'.state) (sym x.is)
-      (sent_order parent_as r.outputs (with_parent Pin Segment c n open_of r.parent s) (record { elements = kept.0.elements; parent = once.0 }), (once.1, kept.1))
+      let once = upper.commit_once c (k, x.held) x.answer s.parent order.parent in
+      (sent_order parent_as r.outputs (with_parent Pin Segment c n open_of r.parent s) (record { elements = order.elements; parent = once.0 }), once.1)
+  does_keep s t e (solves_below d k h s' x) order =
+      let r = commit c (place n d) (k, x.held) x.down s.clock (λ b. b.segment) (job_found x.rows.source_known x.rows.target_known x.rows.best) (s.elements d) in
+      let once = counting.commit_once Pin Segment c (place n d) (k, x.held) x.down s.clock (λ b. b.segment) x.rows.source_known x.rows.target_known x.rows.best (s.elements d) (order.elements d) in
+      (sent_order d r.outputs (with_element Pin Segment c n open_of d r.element s) (with_one d r.element s once.0 order), once.1)
+  does_keep s t e (pops a b rest s') order = (record { elements = order.elements; parent = order.parent }, tt)
+  does_keep s t e (hands_out i bytes s') order = (order, tt)
+  does_keep s t e (says_own at p o s') order = (sent_order at (record { to = p; message = own_message o } ∷ []) s order, own_none p o)
+  does_keep s t e (clears_link x s') order = (record { elements = order.elements; parent = order.parent }, tt)
+  does_keep s t e (expires_at now s') order = (record { elements = order.elements; parent = order.parent }, tt)
+  does_keep s t e (loads_rows d g s') order = (record { elements = order.elements; parent = order.parent }, tt)
 
   pub run_kept : (es : List Entry) (s : Plant) → Run c n es s → InOrder s × Each IsFairDeed (deeds_of c n es)
-  run_kept = run_holds c n KeptIn (
-    record {
-      elements = λ d. record { few = omega arith; last = omega arith; numbers = omega arith; names = tt };
-      parent = record { few = omega arith; last = omega arith; numbers = omega arith; names = tt };
-    },
-    tt,
-  )
-      (λ ds s t es kept act. act_kept ds s t es kept act)
-      (λ ds s d g given kept. (record { elements = kept.0.elements; parent = kept.0.parent }, (tt, kept.1))) solve_kept upper_kept
+  run_kept =
+      run_keeps c n Kept (λ ds s t elements above current kept. (order_same s t elements above kept.0, kept.1))
+      (λ ds s t e does kept. let next = does_keep s t e does kept.0 in (next.0, (next.1, kept.1))) (
+        record {
+          elements = λ d. record { few = omega arith; last = omega arith; numbers = omega arith; names = tt };
+          parent = record { few = omega arith; last = omega arith; numbers = omega arith; names = tt };
+        },
+        tt,
+      )
 
 -- ---- what a deed does to an open request
 

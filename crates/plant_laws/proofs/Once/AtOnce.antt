@@ -1,17 +1,17 @@
 -- A reply that is said to a request when it is taken has the id of that request.
-use Rattle.std.proofs.Common.{◌≡◌, ℕ, Bool, true, false, cond, Option, Some, None, List, [], ◌∷◌, ◌++◌, sym, ap, subst, refl}
-use Rattle.plant_model.specs.Types.{As, Peer, Outside, Inner, Hop, Answer, Asked, Message, Reply, Request, Wanted, Wish, Class, NetworkParts}
+use Rattle.std.proofs.Common.{◌≡◌, ℕ, Bool, true, false, cond, Option, Some, None, List, [], ◌∷◌, sym, ap, subst}
+use Rattle.plant_model.specs.Types.{As, Peer, Inner, Hop, Answer, Asked, Message, Reply, Request, Wanted, Wish, Class, NetworkParts}
 use Rattle.pcep_messages.specs.declared.message.Message.TheVariants as messages
 use Rattle.pcep_messages.specs.declared.message.Wish.TheVariants.{Path, Expand}
 use Rattle.disclosure.specs.Shown.{open_of}
 use Rattle.request_table.specs.Pending.{number_of, is_full}
 use Rattle.plant_model.specs.declared.output.Output.{Output}
-use Rattle.plant_text.specs.Names.{same_as, parent_as}
+use Rattle.plant_text.specs.Names.{parent_as}
 use Rattle.plant_model.specs.Names.{the_parent}
 use Rattle.plant_model.specs.Wire.{Codec, Checked, Admitted, Wrong}
 use Rattle.plant_model.specs.Writing.{reply_message, unavailable, no_key}
 use Rattle.disclosure.specs.Policy.{is_denied}
-use Rattle.plant_model.specs.Element.{Element, Way, ElementSettings, Taken, way_to, with_last, upped, downed}
+use Rattle.plant_model.specs.Element.{Element, Way, ElementSettings, Taken, way_to, with_last}
 use Rattle.plant_model.specs.Routes.{toward}
 use Rattle.plant_model.specs.Taking.{take, take_asked, take_checked, take_new, take_wish, take_along, send_on, sequence_or, goes_up, expansion, sight, wanting}
 use Rattle.plant_model.specs.Parent as parent
@@ -19,12 +19,9 @@ use Rattle.plant_model.specs.Parent.{Family, Parent, ParentTaken, Wait, Errand}
 use Rattle.plant_text.specs.Settings.{class_of}
 use Rattle.plant_model.specs.Settings.{place, family}
 use Rattle.plant_model.specs.State.{State, Deed, Loads, Pops, Takes, Says, Ups, Downs, Clears, Solves, Expires, Hands}
-use Rattle.plant_model.specs.Deeds.{Going, element_of, with_parent, with_element, puts, give, rise, fall}
-use Rattle.plant_model.specs.Plant.{Pin, Segment, Plant, Happened, Entry, Run, deeds_of}
-use Rattle.plant_laws.specs.Transcript.{Transcript}
-use Rattle.plant_laws.proofs.Runs.Acts.{Acts, rests, hears, carries, nods, hands, rises, falls, says, clears, expires}
+use Rattle.plant_model.specs.Plant.{Pin, Segment, Plant, Entry, Run, deeds_of, PlantDeed}
+use Rattle.plant_laws.proofs.Once.DeedByDeed.{Does, takes_above, takes_below, downs_above, downs_below, ups_above, ups_below, solves_above, solves_below, pops, hands_out, says_own, clears_link, expires_at, loads_rows, run_keeps}
 use Rattle.plant_laws.proofs.Runs.Decompose.{nil_right}
-use Rattle.plant_laws.proofs.Runs.Induction.{run_holds}
 use Rattle.plant_laws.proofs.Runs.Queues.{same_as_is}
 use Rattle.plant_laws.proofs.Once.Takes.{own_is}
 use Rattle.plant_laws.proofs.Numbering.Sends.{Each}
@@ -131,9 +128,6 @@ DeedTells c (Expires now) = Unit {0}
 DeedTells c (Hands i bytes) = Unit {0}
 
 module _ (c : Codec) (n : NetworkParts) where
-  abbrev All_tell : Transcript → Type 0
-  All_tell ds = Each (DeedTells c) ds
-
   element_tells : (at : As) (p : Peer) (m : Message) (s : State Pin Segment) → message_tells c at m (take c open_of (place n at) (s.current at) p (class_of n p) s.clock m (s.elements at)).outputs
   element_tells at p (messages.PcReq []) s = tt
   element_tells at p (messages.PcReq (a ∷ [])) s =
@@ -162,52 +156,21 @@ module _ (c : Codec) (n : NetworkParts) where
   parent_tells p (messages.Close why) k = tt
   parent_tells p (messages.Other kind) k = tt
 
-  tell_pick : (ds : Transcript) (b : Bool) (g h : Going Pin Segment) → (b ≡ true → All_tell (g.deeds ++ ds)) → (b ≡ false → All_tell (h.deeds ++ ds)) → All_tell ((cond b g h).deeds ++ ds)
-  tell_pick ds true g h x y = x refl
-  tell_pick ds false g h x y = y refl
-
-  give_tells : (at : As) (p : Peer) (m : Message) (s : State Pin Segment) (es ds : Transcript) → All_tell (es ++ ds) →
-      All_tell ((give Pin Segment c n open_of at p m (record { state = s; deeds = es })).deeds ++ ds)
-  give_tells at p m s es ds all =
-      let r = parent.take c (family n) p m s.parent in
-      let t = take c open_of (place n at) (s.current at) p (class_of n p) s.clock m (s.elements at) in
-      tell_pick ds (same_as at parent_as)
-      (record { state = puts Pin Segment c n open_of at r.outputs (with_parent Pin Segment c n open_of r.parent s); deeds = Takes at p m r.outputs ∷ es })
-      (record { state = puts Pin Segment c n open_of at t.outputs (with_element Pin Segment c n open_of at t.element s); deeds = Takes at p m t.outputs ∷ es })
-      (λ up. (subst (λ (z : As). message_tells c z m r.outputs) (sym (same_as_is at parent_as up)) (parent_tells p m s.parent), all))
-      (λ low. (element_tells at p m s, all))
-
-  fall_tells : (at : As) (p : Peer) (s : State Pin Segment) (ds : Transcript) → All_tell ds → All_tell ((fall Pin Segment c n open_of at p (record { state = s; deeds = [] })).deeds ++ ds)
-  fall_tells at p s ds all =
-      let r = parent.downed p s.parent in
-      let t = downed p (s.elements at) in
-      tell_pick ds (same_as at parent_as)
-      (record { state = puts Pin Segment c n open_of at r.outputs (with_parent Pin Segment c n open_of r.parent s); deeds = Downs at p r.outputs ∷ [] })
-      (record { state = puts Pin Segment c n open_of at t.outputs (with_element Pin Segment c n open_of at t.element s); deeds = Downs at p t.outputs ∷ [] })
-      (λ up. (tt, all)) (λ low. (tt, all))
-
-  rise_tells : (at : As) (p : Peer) (s : State Pin Segment) (ds : Transcript) → All_tell ds → All_tell ((rise Pin Segment c n open_of at p (record { state = s; deeds = [] })).deeds ++ ds)
-  rise_tells at p s ds all =
-      tell_pick ds (same_as at parent_as)
-      (record { state = with_parent Pin Segment c n open_of (parent.upped p s.parent) s; deeds = Ups at p ∷ [] })
-      (record { state = with_element Pin Segment c n open_of at (upped p (s.elements at)) s; deeds = Ups at p ∷ [] })
-      (λ up. (tt, all)) (λ low. (tt, all))
-
-  act_tells : (ds : Transcript) (s t : State Pin Segment) (es : Transcript) → All_tell ds → Acts Pin Segment c n open_of s es t → All_tell (es ++ ds)
-  act_tells ds s t es all (rests s' t' same) = all
-  act_tells ds s t es all (hears i bytes m s' read) = give_tells (element_of n i) (Outside i) m s [] ds all
-  act_tells ds s t es all (carries a b bytes rest m s' u is read same) = give_tells b (Inner a) m u (Pops a b ∷ []) ds (tt, all)
-  act_tells ds s t es all (nods a b bytes rest s' is) = (tt, all)
-  act_tells ds s t es all (hands i bytes s' t' same) = (tt, all)
-  act_tells ds s t es all (rises at p s') = rise_tells at p s ds all
-  act_tells ds s t es all (falls at p s') = fall_tells at p s ds all
-  act_tells ds s t es all (says at p o s') = (tt, all)
-  act_tells ds s t es all (clears x s') = (tt, all)
-  act_tells ds s t es all (expires now s') = (tt, all)
-
-  abbrev TellIn : Transcript → Plant → Type 0
-  TellIn ds s = All_tell ds
+  does_tell : (s t : State Pin Segment) (e : PlantDeed) → Does c n s e t → DeedTells c e
+  does_tell s t e (takes_above at p m s' up) = subst (λ (z : As). message_tells c z m (parent.take c (family n) p m s.parent).outputs) (sym (same_as_is at parent_as up)) (parent_tells p m s.parent)
+  does_tell s t e (takes_below at p m s' low heard) = element_tells at p m s
+  does_tell s t e (downs_above at p s' up) = tt
+  does_tell s t e (downs_below at p s' low) = tt
+  does_tell s t e (ups_above at p s' up) = tt
+  does_tell s t e (ups_below at p s' low) = tt
+  does_tell s t e (solves_above k h s' x) = tt
+  does_tell s t e (solves_below d k h s' x) = tt
+  does_tell s t e (pops a b rest s') = tt
+  does_tell s t e (hands_out i bytes s') = tt
+  does_tell s t e (says_own at p o s') = tt
+  does_tell s t e (clears_link x s') = tt
+  does_tell s t e (expires_at now s') = tt
+  does_tell s t e (loads_rows d g s') = tt
 
   pub run_tells : (es : List Entry) (s : Plant) → Run c n es s → Each (DeedTells c) (deeds_of c n es)
-  run_tells = run_holds c n TellIn tt (λ ds s t es all act. act_tells ds s t es all act) (λ ds s d g given all. (tt, all))
-      (λ ds s d k h all x. subst (λ (h' : Happened). All_tell (h'.deeds ++ ds)) (sym x.is) (tt, all)) (λ ds s k h all x. subst (λ (h' : Happened). All_tell (h'.deeds ++ ds)) (sym x.is) (tt, all))
+  run_tells = run_keeps c n (λ ds s. Each (DeedTells c) ds) (λ ds s t elements above current all. all) (λ ds s t e does all. (does_tell s t e does, all)) tt

@@ -20,7 +20,8 @@ use Rattle.plant_model.specs.Solving.{commit, closed_reply, client_reply, closed
 use Rattle.plant_laws.proofs.Once.Besides.{besides_asking}
 use Rattle.plant_laws.specs.Transcript.{one_if, count_answers, answers_to}
 use Rattle.plant_laws.proofs.Once.Handing.{In}
-use Rattle.plant_laws.proofs.Once.RowCounts.{named, count, count_once, one_if_le, removed, removed_less, rewritten, ended_pending, item_pending, begun_pending, filter_pending}
+use Rattle.plant_laws.proofs.Runs.Rows.{filtered_pending}
+use Rattle.plant_laws.proofs.Once.RowCounts.{named, count, count_once, one_if_le, removed, removed_less, rewritten, ended_pending, item_pending, begun_pending}
 
 pub answers_append : (p : Peer) (x : ℕ) (os os' : List Output) → answers_to p x (os ++ os') ≡ answers_to p x os + answers_to p x os'
 answers_append p x [] os' = omega arith
@@ -383,4 +384,4 @@ module _ (P : Type 0) (S : Type 0) where
       ]
 
   pub downed_once : (p : Peer) (k : Element P S) → ArePending k.pending → IsOnce (downed p k)
-  downed_once p k are = (filter_pending (stays p) k.pending are, λ q x. omega (arith, lost_answers p k.pending.rows q x, count_once q x k.pending.rows are.names))
+  downed_once p k are = (filtered_pending (stays p) k.pending are, λ q x. omega (arith, lost_answers p k.pending.rows q x, count_once q x k.pending.rows are.names))

@@ -17,7 +17,8 @@ use Rattle.plant_model.specs.Parent.{Wait, AskingRow, Parent, Family, ParentTake
 use Rattle.plant_laws.proofs.Once.Besides.{besides_asking}
 use Rattle.plant_laws.specs.Transcript.{one_if, count_answers, answers_to}
 use Rattle.plant_laws.proofs.Once.Handing.{In}
-use Rattle.plant_laws.proofs.Once.RowCounts.{count, count_once, one_if_le, removed, removed_less, rewritten, ended_pending, item_pending, begun_pending, filter_pending}
+use Rattle.plant_laws.proofs.Runs.Rows.{filtered_pending}
+use Rattle.plant_laws.proofs.Once.RowCounts.{count, count_once, one_if_le, removed, removed_less, rewritten, ended_pending, item_pending, begun_pending}
 use Rattle.plant_laws.proofs.Once.Counting.{answers_append, AnswersAt, reply_at, busy_at, error_at, one_answer, IsFair, has_room}
 
 pub waiting_in : (p : Peer) (y : ℕ) (hs : List AskingRow) (h : AskingRow) → waiting p y hs ≡ Some h → In h hs
@@ -253,4 +254,4 @@ lost_answers p (h ∷ rows) q x =
     ]
 
 pub downed_once : (p : Peer) (k : Parent) → ArePending k.pending → IsOnce (downed p k)
-downed_once p k are = (filter_pending (stays p) k.pending are, λ q x. omega (arith, lost_answers p k.pending.rows q x, count_once q x k.pending.rows are.names))
+downed_once p k are = (filtered_pending (stays p) k.pending are, λ q x. omega (arith, lost_answers p k.pending.rows q x, count_once q x k.pending.rows are.names))

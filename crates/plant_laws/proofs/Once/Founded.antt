@@ -4,8 +4,7 @@ use Rattle.std.proofs.Common.{◌≡◌, ◌⊎◌, ◌≤◌, ◌==◌, ℕ, Bo
 use Rattle.std.specs.Map.{lookup}
 use Rattle.std.proofs.lemmas.Bool.{cases_Bool, eqb-true}
 use Rattle.std.proofs.lemmas.Grind.{common_steps}
-use Rattle.plant_model.specs.Types.{As, Peer, Outside, Inner, Asked, Message, Request, Best, Branch, Held, NetworkParts}
-use Rattle.te_links.specs.Rows.{Rows}
+use Rattle.plant_model.specs.Types.{As, Peer, Asked, Message, Request, Best, Branch, Held, NetworkParts}
 use Rattle.pcep_messages.specs.declared.message.Answer.TheVariants.{Paths, NoPath}
 use Rattle.pcep_messages.specs.declared.message.Message.TheVariants as messages
 use Rattle.disclosure.specs.Shown.{open_of}
@@ -16,16 +15,16 @@ use Rattle.plant_text.specs.Names.{same_as, parent_as}
 use Rattle.plant_model.specs.Wire.{Codec, Checked, Admitted, Wrong}
 use Rattle.plant_model.specs.Writing.{reply_message, busy, no_path}
 use Rattle.plant_model.specs.Branches.{open_branch, path_of}
-use Rattle.plant_model.specs.Element.{Element, Row, ElementSettings, Taken, upped, downed, is_client}
+use Rattle.plant_model.specs.Element.{Element, Row, ElementSettings, Taken, downed, is_client}
 use Rattle.plant_model.specs.Taking.{take}
 use Rattle.plant_model.specs.Solving.{commit, client_reply, closed_reply, closed_paths, free, job_found}
 use Rattle.plant_model.specs.BorderGraph.{Found}
 use Rattle.plant_model.specs.Parent as parent
 use Rattle.plant_text.specs.Settings.{class_of}
 use Rattle.plant_model.specs.Settings.{place, family}
-use Rattle.plant_model.specs.State.{State, Loads, Pops, Takes, Says, Ups, Downs, Clears, Solves, Expires, Hands}
-use Rattle.plant_model.specs.Deeds.{Going, element_of, own_message, with_parent, with_element, puts, give, rise, fall}
-use Rattle.plant_model.specs.Plant.{Pin, Segment, Plant, PlantDeed, Happened, Entry, Run, deeds_of, load_new, ElementSolves, ParentSolves}
+use Rattle.plant_model.specs.State.{State, Takes}
+use Rattle.plant_model.specs.Deeds.{Going, own_message}
+use Rattle.plant_model.specs.Plant.{Pin, Segment, Plant, PlantDeed, Entry, Run, deeds_of}
 use Rattle.plant_laws.specs.Transcript.{Transcript, Within, opened, Delivered, answers_to, one_if}
 use Rattle.plant_laws.specs.Answered.{answers_of, AnswersFor, at_once, refused}
 use Rattle.plant_laws.proofs.Once.AskedAnew.{asks_under, IsNew, said_under, said_new, above_under, above_new}
@@ -34,17 +33,17 @@ use Rattle.plant_laws.proofs.Once.ElementSteps as lower
 use Rattle.plant_laws.proofs.Once.ParentSteps as above
 use Rattle.plant_laws.proofs.Runs.Seen.{seen, seen_none}
 use Rattle.plant_laws.proofs.Once.Takes.{IsSingle, own_is}
-use Rattle.plant_laws.proofs.Runs.Acts.{popped, Acts, rests, hears, carries, nods, hands, rises, falls, says, clears, expires}
+use Rattle.plant_laws.proofs.Runs.Acts.{says}
 use Rattle.plant_laws.proofs.Runs.Queues.{same_as_is}
-use Rattle.plant_laws.proofs.Runs.Induction.{run_holds}
 use Rattle.plant_laws.proofs.Runs.Rows.{numbered}
 use Rattle.plant_laws.proofs.Once.RowCounts.{count, named, none_named, one_if_le}
 use Rattle.plant_laws.proofs.Once.Counting as counting
 use Rattle.plant_laws.proofs.Once.Counting.{AnswersAt, one_answer, reply_at, busy_at}
 use Rattle.plant_laws.proofs.Once.CountingUpper as upper
 use Rattle.plant_laws.proofs.Runs.Inboxes.{contains}
-use Rattle.plant_laws.proofs.Once.Opened.{AreSingle, Matches, IsRequest, IsUpperRequest, Holds, holds_same}
-use Rattle.plant_laws.proofs.Once.OpenedRuns.{act_holds, load_holds, solve_holds, upper_holds, give_single, fall_single, rise_single, quiet, bare_holds}
+use Rattle.plant_laws.proofs.Once.Opened.{AreSingle, Matches, IsRequest, IsUpperRequest, Holds, holds_same, single_deed}
+use Rattle.plant_laws.proofs.Once.OpenedRuns.{does_hold, bare_holds}
+use Rattle.plant_laws.proofs.Once.DeedByDeed.{Does, takes_above, takes_below, downs_above, downs_below, ups_above, ups_below, solves_above, solves_below, pops, hands_out, says_own, clears_link, expires_at, loads_rows, run_singles}
 use Rattle.plant_laws.proofs.Once.OpenTables.{taken, taken_above}
 
 -- an open request with the moment that delivered it
@@ -251,136 +250,70 @@ module _ (c : Codec) (n : NetworkParts) where
       (answers_by parent_as p a os ds x (c.check a parent_as) refl (above_under (family n) p p x c a k) some
       (λ r is. none_open above.core (IsUpperRequest c n p r.id) k.pending p r.id (opened c parent_as p r.id ds) (subst (λ (o : Checked). IsNew k.pending p o) is new) (held.asking p r.id)))
 
-  give_found : (at : As) (p : Peer) (m : Message) (s : Core) (es ds : Transcript) → IsSingle m → Holds c n (es ++ ds) s → AreFounded c (es ++ ds) →
-      AreFounded c ((give Pin Segment c n open_of at p m (record { state = s; deeds = es })).deeds ++ ds)
-  give_found at p m s es ds one held all =
+  -- what is said to a message that is this one
+  by_message : (outs : Message → List Output) (Q : Message → List Output → Type 0) (q : Peer) (x : ℕ) (m : Message) (asks : List Asked) → m ≡ messages.PcReq asks → 1 ≤ answers_to q x (outs m) →
+      (1 ≤ answers_to q x (outs (messages.PcReq asks)) → Q (messages.PcReq asks) (outs (messages.PcReq asks))) → Q (messages.PcReq asks) (outs m)
+  by_message outs Q q x m asks is some own =
+      subst (λ (z : Message). Q (messages.PcReq asks) (outs z)) (sym is) (own (subst (λ (z : Message). 1 ≤ answers_to q x (outs z)) is some))
+
+  does_found : (s t : Core) (ds : Transcript) (e : PlantDeed) → Does c n s e t → single_deed e → Holds c n ds s → IsFounded c e ds
+  does_found s t ds e (takes_above at p m s' up) one held =
       let r = parent.take c (family n) p m s.parent in
-      let t = take c open_of (place n at) (s.current at) p (class_of n p) s.clock m (s.elements at) in
-      pick_found ds (same_as at parent_as)
-      (record { state = puts Pin Segment c n open_of at r.outputs (with_parent Pin Segment c n open_of r.parent s); deeds = Takes at p m r.outputs ∷ es })
-      (record { state = puts Pin Segment c n open_of at t.outputs (with_element Pin Segment c n open_of at t.element s); deeds = Takes at p m t.outputs ∷ es })
-      (λ up. (
-        record {
-          found = takes_found at p m r.outputs (es ++ ds) (λ q x some.
-              subst (λ (z : As). IsFoundAt c z q x (es ++ ds)) (is_parent at up)
-              (parent_found (es ++ ds) s held q x (let le = upper.take_counts c p (family n) m s.parent held.parent q x in omega (arith, le, some))));
-          asked = takes_asked at p m r.outputs (es ++ ds) (λ asks is x some.
-              by_message (λ (z : Message). (parent.take c (family n) p z s.parent).outputs) (λ (z : Message) (os : List Output). IsAnswer at p z os (es ++ ds) x) p x m asks is some
-              (parent_asked (es ++ ds) s held at p (is_parent at up) asks (subst IsSingle is one) x));
-        },
-        all,
-      ))
-      (λ low. (
-        record {
-          found = takes_found at p m t.outputs (es ++ ds) (λ q x some.
-              element_found (es ++ ds) s held at q x
-              (let le = counting.take_found Pin Segment c p open_of (place n at) (s.current at) (class_of n p) s.clock m (s.elements at) (held.elements at) q x in omega (arith, le, some)));
-          asked = takes_asked at p m t.outputs (es ++ ds) (λ asks is x some.
-              by_message (λ (z : Message). (take c open_of (place n at) (s.current at) p (class_of n p) s.clock z (s.elements at)).outputs) (λ (z : Message) (os : List Output). IsAnswer at p z os (es ++ ds) x) p x m asks is some
-              (element_asked (es ++ ds) s held at p low asks (subst IsSingle is one) x));
-        },
-        all,
-      ))
-    where
-      -- what is said to a message that is this one
-      by_message : (outs : Message → List Output) (Q : Message → List Output → Type 0) (q : Peer) (x : ℕ) (m : Message) (asks : List Asked) → m ≡ messages.PcReq asks → 1 ≤ answers_to q x (outs m) →
-          (1 ≤ answers_to q x (outs (messages.PcReq asks)) → Q (messages.PcReq asks) (outs (messages.PcReq asks))) → Q (messages.PcReq asks) (outs m)
-      by_message outs Q q x m asks is some own =
-          subst (λ (z : Message). Q (messages.PcReq asks) (outs z)) (sym is) (own (subst (λ (z : Message). 1 ≤ answers_to q x (outs z)) is some))
-
-  fall_found : (at : As) (p : Peer) (s : Core) (ds : Transcript) → Holds c n ds s → AreFounded c ds →
-      AreFounded c ((fall Pin Segment c n open_of at p (record { state = s; deeds = [] })).deeds ++ ds)
-  fall_found at p s ds held all =
-      let r = parent.downed p s.parent in
-      let t = downed p (s.elements at) in
-      pick_found ds (same_as at parent_as)
-      (record { state = puts Pin Segment c n open_of at r.outputs (with_parent Pin Segment c n open_of r.parent s); deeds = Downs at p r.outputs ∷ [] })
-      (record { state = puts Pin Segment c n open_of at t.outputs (with_element Pin Segment c n open_of at t.element s); deeds = Downs at p t.outputs ∷ [] })
-      (λ up. (
-        outs_found (Downs at p r.outputs) at r.outputs ds (λ d q x. refl) (λ d q x. refl) (λ q x some.
+      record {
+        found = takes_found at p m r.outputs ds (λ q x some.
             subst (λ (z : As). IsFoundAt c z q x ds) (is_parent at up)
-            (parent_found ds s held q x (let le = upper.lost_answers p s.parent.pending.rows q x in omega (arith, le, some)))),
-        all,
-      ))
-      (λ low. (
-        outs_found (Downs at p t.outputs) at t.outputs ds (λ d q x. refl) (λ d q x. refl) (λ q x some.
-            element_found ds s held at q x (let le = counting.lost_answers Pin Segment p (s.elements at).pending.rows q x in omega (arith, le, some))),
-        all,
-      ))
+            (parent_found ds s held q x (let le = upper.take_counts c p (family n) m s.parent held.parent q x in omega (arith, le, some))));
+        asked = takes_asked at p m r.outputs ds (λ asks is x some.
+            by_message (λ (z : Message). (parent.take c (family n) p z s.parent).outputs) (λ (z : Message) (os : List Output). IsAnswer at p z os ds x) p x m asks is some
+            (parent_asked ds s held at p (is_parent at up) asks (subst IsSingle is one) x));
+      }
+  does_found s t ds e (takes_below at p m s' low heard) one held =
+      let r = take c open_of (place n at) (s.current at) p (class_of n p) s.clock m (s.elements at) in
+      record {
+        found = takes_found at p m r.outputs ds (λ q x some.
+            element_found ds s held at q x
+            (let le = counting.take_found Pin Segment c p open_of (place n at) (s.current at) (class_of n p) s.clock m (s.elements at) (held.elements at) q x in omega (arith, le, some)));
+        asked = takes_asked at p m r.outputs ds (λ asks is x some.
+            by_message (λ (z : Message). (take c open_of (place n at) (s.current at) p (class_of n p) s.clock z (s.elements at)).outputs) (λ (z : Message) (os : List Output). IsAnswer at p z os ds x) p x m asks is some
+            (element_asked ds s held at p low asks (subst IsSingle is one) x));
+      }
+  does_found s t ds e (downs_above at p s' up) one held =
+      outs_found e at (parent.downed p s.parent).outputs ds (λ d q x. refl) (λ d q x. refl) (λ q x some.
+      subst (λ (z : As). IsFoundAt c z q x ds) (is_parent at up)
+      (parent_found ds s held q x (let le = upper.lost_answers p s.parent.pending.rows q x in omega (arith, le, some))))
+  does_found s t ds e (downs_below at p s' low) one held =
+      outs_found e at (downed p (s.elements at)).outputs ds (λ d q x. refl) (λ d q x. refl) (λ q x some.
+      element_found ds s held at q x (let le = counting.lost_answers Pin Segment p (s.elements at).pending.rows q x in omega (arith, le, some)))
+  does_found s t ds e (ups_above at p s' up) one held = none_found e ds (λ d q x. refl) (λ d q x. refl)
+  does_found s t ds e (ups_below at p s' low) one held = none_found e ds (λ d q x. refl) (λ d q x. refl)
+  does_found s t ds e (solves_above k h s' x) one held =
+      outs_found e parent_as (parent.commit c (k, x.held) x.answer s.parent).outputs ds (λ d' q y. refl) (λ d' q y. refl) (λ q y some.
+      parent_found ds s held q y
+      (let le = upper_commit_counts c (k, x.held) x.answer s.parent q y in
+      let le' = row_counts q y s.parent.pending.rows k x.held x.is_held in
+      omega (arith, le, le', some)))
+  does_found s t ds e (solves_below d k h s' x) one held =
+      let r = commit c (place n d) (k, x.held) x.down s.clock (λ b. b.segment) (job_found x.rows.source_known x.rows.target_known x.rows.best) (s.elements d) in
+      outs_found e d r.outputs ds (λ d' q y. refl) (λ d' q y. refl) (λ q y some.
+      element_found ds s held d q y
+      (let le = commit_counts Pin Segment c (place n d) (k, x.held) x.down s.clock (λ b. b.segment) x.rows.source_known x.rows.target_known x.rows.best (s.elements d) q y in
+      let le' = row_counts q y (s.elements d).pending.rows k x.held x.is_held in
+      omega (arith, le, le', some)))
+  does_found s t ds e (pops a b rest s') one held = none_found e ds (λ d q x. refl) (λ d q x. refl)
+  does_found s t ds e (hands_out i bytes s') one held = none_found e ds (λ d q x. refl) (λ d q x. refl)
+  does_found s t ds e (says_own at p o s') one held =
+      outs_found e at (record { to = p; message = own_message o } ∷ []) ds (λ d q x. refl) (λ d q x. refl) (λ q x some. absurd (let none = own_none p o q x in omega (arith, none, some)))
+  does_found s t ds e (clears_link x s') one held = none_found e ds (λ d q y. refl) (λ d q y. refl)
+  does_found s t ds e (expires_at now s') one held = none_found e ds (λ d q x. refl) (λ d q x. refl)
+  does_found s t ds e (loads_rows d g s') one held = none_found e ds (λ d' q x. refl) (λ d' q x. refl)
 
-  rise_found : (at : As) (p : Peer) (s : Core) (ds : Transcript) → AreFounded c ds →
-      AreFounded c ((rise Pin Segment c n open_of at p (record { state = s; deeds = [] })).deeds ++ ds)
-  rise_found at p s ds all =
-      pick_found ds (same_as at parent_as)
-      (record { state = with_parent Pin Segment c n open_of (parent.upped p s.parent) s; deeds = Ups at p ∷ [] })
-      (record { state = with_element Pin Segment c n open_of at (upped p (s.elements at)) s; deeds = Ups at p ∷ [] })
-      (λ up. (none_found (Ups at p) ds (λ d q x. refl) (λ d q x. refl), all)) (λ low. (none_found (Ups at p) ds (λ d q x. refl) (λ d q x. refl), all))
-
-  act_founded : (ds : Transcript) (s t : Core) (es : Transcript) → If ds s → Acts Pin Segment c n open_of s es t → AreSingle (es ++ ds) → AreFounded c (es ++ ds)
-  act_founded ds s t es held (rests s' t' same) single = (held single).1
-  act_founded ds s t es held (hears i bytes m s' read) single =
-      let x = give_single c n (element_of n i) (Outside i) m s [] ds single in
-      let old = held x.1 in
-      give_found (element_of n i) (Outside i) m s [] ds x.0 old.0 old.1
-  act_founded ds s t es held (carries a b bytes rest m s' u is read same) single =
-      let x = give_single c n b (Inner a) m u (Pops a b ∷ []) ds single in
-      let old = held x.1.1 in
-      let p = popped Pin Segment c n open_of a b rest s in
-      let good = quiet c n (Pops a b) ds s p (λ d q x. refl) (λ d. refl) refl refl (λ d. refl) (λ d. refl) old.0 in
-      let good' = holds_same c n (Pops a b ∷ ds) p u same.elements same.parent same.current good in
-      give_found b (Inner a) m u (Pops a b ∷ []) ds x.0 good' (none_found (Pops a b) ds (λ d q x. refl) (λ d q x. refl), old.1)
-  act_founded ds s t es held (nods a b bytes rest s' is) single = (none_found (Pops a b) ds (λ d q x. refl) (λ d q x. refl), (held single.1).1)
-  act_founded ds s t es held (hands i bytes s' t' same) single = (none_found (Hands i bytes) ds (λ d q x. refl) (λ d q x. refl), (held single.1).1)
-  act_founded ds s t es held (rises at p s') single = rise_found at p s ds (held (rise_single c n at p s ds single)).1
-  act_founded ds s t es held (falls at p s') single = let old = held (fall_single c n at p s ds single) in fall_found at p s ds old.0 old.1
-  act_founded ds s t es held (says at p o s') single =
-      let out : Output = record { to = p; message = own_message o } in
-      (outs_found (Says at out) at (out ∷ []) ds (λ d q x. refl) (λ d q x. refl) (λ q x some. absurd (let none = own_none p o q x in omega (arith, none, some))), (held single.1).1)
-  act_founded ds s t es held (clears x s') single = (none_found (Clears x.lower x.upper) ds (λ d q y. refl) (λ d q y. refl), (held single.1).1)
-  act_founded ds s t es held (expires now s') single = (none_found (Expires now) ds (λ d q x. refl) (λ d q x. refl), (held single.1).1)
-
-  act_both : (ds : Transcript) (s t : Core) (es : Transcript) → If ds s → Acts Pin Segment c n open_of s es t → If (es ++ ds) t
-  act_both ds s t es held act single = (act_holds c n ds s t es (λ z. (held z).0) act single, act_founded ds s t es held act single)
-
-  load_both : (ds : Transcript) (s : Plant) (d : As) (g : Rows) → If ds s → If (Loads d g ∷ ds) (load_new c n d g s).state
-  load_both ds s d g held single = (load_holds c n ds s d g (λ z. (held z).0) single, (none_found (Loads d g) ds (λ d' q x. refl) (λ d' q x. refl), (held single.1).1))
-
-  solve_both : (ds : Transcript) (s : Plant) (d : As) (k : ℕ) (h : Happened) → If ds s → ElementSolves c n d k s h → If (h.deeds ++ ds) h.state
-  solve_both ds s d k h held x single = (solve_holds c n ds s d k h (λ z. (held z).0) x single, founded single)
-    where
-      founded : AreSingle (h.deeds ++ ds) → AreFounded c (h.deeds ++ ds)
-      founded =
-          let r = commit c (place n d) (k, x.held) x.down s.clock (λ b. b.segment) (job_found x.rows.source_known x.rows.target_known x.rows.best) (s.elements d) in
-          subst (λ (h' : Happened). AreSingle (h'.deeds ++ ds) → AreFounded c (h'.deeds ++ ds)) (sym x.is)
-          (λ single.
-          let old = held single.1 in (
-            outs_found (Solves d k r.outputs r.element.keys.issued) d r.outputs ds (λ d' q y. refl) (λ d' q y. refl) (λ q y some.
-                element_found ds s old.0 d q y
-                (let le = commit_counts Pin Segment c (place n d) (k, x.held) x.down s.clock (λ b. b.segment) x.rows.source_known x.rows.target_known x.rows.best (s.elements d) q y in
-                let le' = row_counts q y (s.elements d).pending.rows k x.held x.is_held in
-                omega (arith, le, le', some))),
-            old.1,
-          ))
-
-  upper_both : (ds : Transcript) (s : Plant) (k : ℕ) (h : Happened) → If ds s → ParentSolves c n k s h → If (h.deeds ++ ds) h.state
-  upper_both ds s k h held x single = (upper_holds c n ds s k h (λ z. (held z).0) x single, founded single)
-    where
-      founded : AreSingle (h.deeds ++ ds) → AreFounded c (h.deeds ++ ds)
-      founded =
-          let r = parent.commit c (k, x.held) x.answer s.parent in
-          subst (λ (h' : Happened). AreSingle (h'.deeds ++ ds) → AreFounded c (h'.deeds ++ ds)) (sym x.is)
-          (λ single.
-          let old = held single.1 in (
-            outs_found (Solves parent_as k r.outputs []) parent_as r.outputs ds (λ d' q y. refl) (λ d' q y. refl) (λ q y some.
-                parent_found ds s old.0 q y
-                (let le = upper_commit_counts c (k, x.held) x.answer s.parent q y in
-                let le' = row_counts q y s.parent.pending.rows k x.held x.is_held in
-                omega (arith, le, le', some))),
-            old.1,
-          ))
+  abbrev Both : Transcript → Core → Type 0
+  Both ds s = Holds c n ds s × AreFounded c ds
 
   pub run_founded : (es : List Entry) (s : Plant) → Run c n es s → AreSingle (deeds_of c n es) → AreFounded c (deeds_of c n es)
-  run_founded es s run single = (run_holds c n If (λ z. (bare_holds c n z, tt)) act_both (λ ds s d g given held. load_both ds s d g held) solve_both upper_both es s run single).1
+  run_founded es s run single =
+      (run_singles c n Both (λ ds s t elements above current both. (holds_same c n ds s t elements above current both.0, both.1))
+      (λ ds s t e does one both. (does_hold c n ds s t e does one both.0, (does_found s t ds e does one both.0, both.1))) (λ z. (bare_holds c n z, tt)) es s run single).1
 
 pub founded_within : (c : Codec) (now : Transcript) → AreFounded c now → (e : PlantDeed) (older : Transcript) → Within (e ∷ older) now → IsFounded c e older
 founded_within c [] all e older w = absurd (let out : e ∷ older ≡ [] = w in cc)

@@ -24,7 +24,7 @@ use Rattle.plant_model.specs.Solving.{commit, closed_reply, client_reply, closed
 use Rattle.plant_laws.specs.Transcript.{one_if, count_answers, tail_of}
 use Rattle.plant_laws.proofs.Once.Handing.{In, In-append}
 use Rattle.plant_laws.proofs.Once.Counting.{waiting_in}
-use Rattle.plant_laws.proofs.Once.RowCounts.{ended_pending, item_pending, begun_pending}
+use Rattle.plant_laws.proofs.Once.RowCounts.{above, ended_pending, item_pending, begun_pending}
 use Rattle.plant_laws.proofs.Once.Counting as counting
 
 -- ---- rows
@@ -37,11 +37,6 @@ In-front x (z ∷ xs) ys (inr h) = inr (In-front x xs ys h)
 pub In-back : {A : Type 0} (x : A) (xs ys : List A) → In x ys → In x (xs ++ ys)
 In-back x [] ys h = h
 In-back x (z ∷ xs) ys h = inr (In-back x xs ys h)
-
-above : {T : Type 0} (low high : ℕ) (rows : List (ℕ × Held T)) (h : ℕ × Held T) → NumbersRise low rows high → In h rows → low < h.0
-above low high [] h up in' = absurd in'
-above {T} low high (row ∷ rows) h up (inl is) = subst (λ (r : ℕ × Held T). low < r.0) (sym is) up.0
-above low high (row ∷ rows) h up (inr in') = omega (arith, up.0, above row.0 high rows h up.1 in')
 
 pub not_equal : (a b : ℕ) → (a ≡ b → ⊥) → nat_eq a b ≡ false
 not_equal a b other = elim (cases_Bool (nat_eq a b)) [ inl hit ↦ absurd (other (eqb-true a b hit)) | inr miss ↦ miss ]

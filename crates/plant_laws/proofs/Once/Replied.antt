@@ -1,52 +1,43 @@
 -- In every run, a reply of paths, or that there are none, comes from a solve, is about a key, or is passed on from the parent.
 use Rattle.std.proofs.Common.{◌≡◌, ◌⊎◌, ℕ, length, Bool, true, false, cond, Option, Some, None, List, [], ◌∷◌, ◌++◌, inl, inr, sym, ◌∙◌, ap, subst, refl, arith}
 use Rattle.std.proofs.lemmas.Bool.{eqb-true, eq-eqb}
-use Rattle.plant_model.specs.Types.{As, Peer, Outside, Inner, Message, NetworkParts, Asked, Path, Reply, Own}
-use Rattle.te_links.specs.Rows.{Rows}
+use Rattle.plant_model.specs.Types.{As, Peer, Message, NetworkParts, Asked, Path, Reply, Own}
 use Rattle.disclosure.specs.Shown.{open_of}
 use Rattle.plant_model.specs.declared.output.Output.{Output}
 use Rattle.plant_text.specs.Names.{same_as, parent_as}
-use Rattle.plant_model.specs.Names.{the_parent}
+use Rattle.plant_model.specs.Names.{the_parent, has_pair}
 use Rattle.plant_model.specs.Wire.{Codec, Admitted}
-use Rattle.plant_model.specs.Writing.{request_message}
-use Rattle.plant_model.specs.Element.{Stage, Waits, Ready, Element, Row, downed}
-use Rattle.plant_model.specs.Taking.{take}
+use Rattle.plant_model.specs.Writing.{request_message, busy, error_message, reply_message, unavailable}
+use Rattle.plant_model.specs.Element.{Stage, Waits, Ready, Element, Row, downed, each, waits_for, waiting, lost, lost_output, Taken}
+use Rattle.plant_model.specs.Taking.{take, goes_up, sequence_or, take_asked, take_busy, take_cancel, told_busy, cancelled, notice_steps, take_notice, take_failure, take_errors, told_error, take_report}
 use Rattle.plant_model.specs.Solving.{commit, job_found}
 use Rattle.plant_model.specs.Parent as parent
 use Rattle.plant_text.specs.Settings.{class_of}
 use Rattle.plant_model.specs.Settings.{place, family}
-use Rattle.plant_model.specs.State.{State, Loads, Pops, Takes, Says, Ups, Downs, Clears, Solves, Expires, Hands}
-use Rattle.plant_model.specs.Deeds.{Going, element_of, own_message, give, rise, fall}
-use Rattle.plant_model.specs.Plant.{Pin, Segment, Plant, PlantDeed, Happened, Entry, Run, deeds_of, load_new, ElementSolves, ParentSolves}
+use Rattle.plant_model.specs.State.{State, Takes}
+use Rattle.plant_model.specs.Deeds.{own_message, rise}
+use Rattle.plant_model.specs.Plant.{Pin, Segment, Plant, PlantDeed, Entry, Run, deeds_of}
 use Rattle.plant_laws.specs.Transcript.{Transcript, opened, outputs_at, SentIn}
-use Rattle.plant_laws.proofs.Runs.Acts.{popped, Acts, rests, hears, carries, nods, hands, rises, falls, says, clears, expires}
 use Rattle.plant_laws.proofs.Runs.Queues.{same_as_is}
-use Rattle.plant_laws.proofs.Runs.Induction.{run_holds}
 use Rattle.plant_laws.proofs.Runs.Rows.{In}
-use Rattle.plant_laws.proofs.Once.Takes.{IsSingle}
-use Rattle.plant_laws.proofs.Once.Opened.{AreSingle}
-use Rattle.plant_laws.proofs.Once.OpenedRuns.{give_single, fall_single, rise_single, bare_holds}
+use Rattle.plant_laws.proofs.Once.Takes.{IsSingle, own_is}
+use Rattle.plant_laws.proofs.Once.Opened.{AreSingle, single_deed}
+use Rattle.plant_laws.proofs.Once.DeedByDeed.{Does, takes_above, takes_below, downs_above, downs_below, ups_above, ups_below, solves_above, solves_below, pops, hands_out, says_own, clears_link, expires_at, loads_rows, run_singles}
 use Rattle.plant_laws.proofs.Numbering.SentOn.{IsRest}
 use Rattle.std.specs.Prelude.{Contains, ◌==◌, map}
 use Rattle.std.proofs.lemmas.List.Elements.{Contains-append_cases}
 use Rattle.pcep_messages.specs.declared.message.Message.TheVariants as messages
 use Rattle.pcep_session.specs.declared.actions.Own.TheVariants as own
-use Rattle.request_table.specs.Pending.{same_peer}
+use Rattle.request_table.specs.Pending.{same_peer, number_of}
 use Rattle.plant_model.specs.declared.output.Lost.{Lost}
-use Rattle.plant_model.specs.Element.{each, waits_for, waiting, lost, lost_output, Taken}
-use Rattle.plant_model.specs.Taking.{goes_up, sequence_or, take_asked, take_busy, take_cancel, told_busy, cancelled, notice_steps, take_notice, take_failure, take_errors, told_error, take_report}
-use Rattle.plant_model.specs.Names.{has_pair}
-use Rattle.plant_model.specs.Writing.{busy, error_message, reply_message, unavailable}
-use Rattle.request_table.specs.Pending.{number_of}
 use Rattle.plant_laws.specs.Pending.{IsTaken}
 use Rattle.border_costs.proofs.Members.{contains_none, contains_head, contains_tail, contains_cases}
 use Rattle.plant_laws.proofs.Runs.Moments.{peer_is, no_more}
-use Rattle.plant_laws.proofs.Once.Takes.{own_is}
 use Rattle.plant_laws.proofs.Once.OpenTables.{taken, found}
 use Rattle.plant_laws.proofs.Least.Given.{OfSolve, OfKey}
 use Rattle.plant_laws.proofs.Least.Spoken.{is_reply}
-use Rattle.plant_laws.proofs.Settled.Waits.{Both, SentAt, act_both}
-use Rattle.plant_laws.proofs.Least.Readied.{All, act_all, load_all, solve_all, upper_all, waits_both, numbers, to_rows}
+use Rattle.plant_laws.proofs.Settled.Waits.{Both, SentAt}
+use Rattle.plant_laws.proofs.Least.Readied.{All, all_same, does_all, bare_all, waits_both, numbers, as_old}
 use Rattle.plant_laws.proofs.Once.TakeSays.{OneTold, IsPassedOn, asked_says, replies_say, not_known, other_one}
 use Rattle.plant_laws.specs.Certified.{Tells}
 
@@ -223,7 +214,7 @@ module _ (c : Codec) (n : NetworkParts) where
       let t = take c open_of (place n at) (s.current at) q (class_of n q) s.clock (messages.PcRep rs) (s.elements at) in
       passed_on at q s older both p r rs t.outputs paths tells
       (replies_say p r paths tells c q (s.elements at).pending.rows rs rs (λ x i. i) (s.elements at)
-      (record { rise = numbers c n older s both at; rows = to_rows c (s.elements at).pending.rows q rs (s.elements at).pending.rows (λ h i. i) }) said)
+      (record { rise = numbers c n older s both at; rows = as_old c (s.elements at).pending.rows q rs (s.elements at).pending.rows (λ h i. i) }) said)
   take_replied at q (messages.PcNtf notices) s older one both p r paths tells = λ said.
       absurd (each_silent p r paths tells (take_notice q) (λ x k. each_silent p r paths tells (λ (rp : ℕ × ℕ). each (λ (step : Peer → ℕ × ℕ → Element Pin Segment → Taken Pin Segment). step q rp) (notice_steps x.kinds))
       (λ rp k'. steps_silent p r paths tells q rp x.kinds k') x.ids k) notices (s.elements at) said)
@@ -249,82 +240,32 @@ module _ (c : Codec) (n : NetworkParts) where
   by_none : (e : PlantDeed) (older : Transcript) → ((d : As) → outputs_at d e ≡ []) → IsReplied e older
   by_none e older is d p r paths real said tells = absurd (contains_none _ (subst (λ (l : List Output). Contains l (record { to = p; message = messages.PcRep (r ∷ []) })) (is d) said))
 
-  replied_pick : (ds : Transcript) (x : Bool) (g h : Going Pin Segment) → (x ≡ true → AllReplied (g.deeds ++ ds)) → (x ≡ false → AllReplied (h.deeds ++ ds)) → AllReplied ((cond x g h).deeds ++ ds)
-  replied_pick ds true g h up low = up refl
-  replied_pick ds false g h up low = low refl
-
-  give_replied : (at : As) (q : Peer) (m : Message) (s : Core) (es ds : Transcript) → IsSingle m → Both c n (es ++ ds) s → AllReplied (es ++ ds) → AllReplied ((give Pin Segment c n open_of at q m (record { state = s; deeds = es })).deeds ++ ds)
-  give_replied at q m s es ds one both old =
-      let r = parent.take c (family n) q m s.parent in
-      let t = take c open_of (place n at) (s.current at) q (class_of n q) s.clock m (s.elements at) in
-      replied_pick ds (same_as at parent_as) _ _
-      (λ up. (by_parent (Takes at q m r.outputs) (es ++ ds) at r.outputs (λ d. refl) up, old))
-      (λ low. (by_own (Takes at q m t.outputs) (es ++ ds) at t.outputs (λ d. refl) (λ p r' paths tells said. take_replied at q m s (es ++ ds) one both p r' paths tells said), old))
-
-  fall_replied : (at : As) (q : Peer) (s : Core) (ds : Transcript) → AllReplied ds → AllReplied ((fall Pin Segment c n open_of at q (record { state = s; deeds = [] })).deeds ++ ds)
-  fall_replied at q s ds old =
-      let r = parent.downed q s.parent in
-      let t = downed q (s.elements at) in
-      replied_pick ds (same_as at parent_as) _ _
-      (λ up. (by_parent (Downs at q r.outputs) ds at r.outputs (λ d. refl) up, old))
-      (λ low. (by_own (Downs at q t.outputs) ds at t.outputs (λ d. refl) (λ p r' paths tells said. absurd (lost_silent p r' paths tells (lost q (s.elements at).pending.rows) said)), old))
-
-  rise_replied : (at : As) (q : Peer) (s : Core) (ds : Transcript) → AllReplied ds → AllReplied ((rise Pin Segment c n open_of at q (record { state = s; deeds = [] })).deeds ++ ds)
-  rise_replied at q s ds old =
-      replied_pick ds (same_as at parent_as) _ _ (λ up. (by_none (Ups at q) ds (λ d. refl), old)) (λ low. (by_none (Ups at q) ds (λ d. refl), old))
+  does_replied : (s t : Core) (ds : Transcript) (e : PlantDeed) → Does c n s e t → single_deed e → Both c n ds s → IsReplied e ds
+  does_replied s t ds e (takes_above at q m s' up) one both = by_parent e ds at (parent.take c (family n) q m s.parent).outputs (λ d. refl) up
+  does_replied s t ds e (takes_below at q m s' low heard) one both =
+      let r = take c open_of (place n at) (s.current at) q (class_of n q) s.clock m (s.elements at) in
+      by_own e ds at r.outputs (λ d. refl) (λ p r' paths tells said. take_replied at q m s ds one both p r' paths tells said)
+  does_replied s t ds e (downs_above at q s' up) one both = by_parent e ds at (parent.downed q s.parent).outputs (λ d. refl) up
+  does_replied s t ds e (downs_below at q s' low) one both =
+      by_own e ds at (downed q (s.elements at)).outputs (λ d. refl) (λ p r' paths tells said. absurd (lost_silent p r' paths tells (lost q (s.elements at).pending.rows) said))
+  does_replied s t ds e (ups_above at q s' up) one both = by_none e ds (λ d. refl)
+  does_replied s t ds e (ups_below at q s' low) one both = by_none e ds (λ d. refl)
+  does_replied s t ds e (solves_above k h s' x) one both = by_parent e ds parent_as (parent.commit c (k, x.held) x.answer s.parent).outputs (λ d'. refl) (eq-eqb 0 0 refl)
+  does_replied s t ds e (solves_below d k h s' x) one both =
+      let r = commit c (place n d) (k, x.held) x.down s.clock (λ b. b.segment) (job_found x.rows.source_known x.rows.target_known x.rows.best) (s.elements d) in
+      by_own e ds d r.outputs (λ d'. refl) (λ p r' paths tells said. inl (record { number = k; outputs = r.outputs; keys = r.element.keys.issued; is = refl }))
+  does_replied s t ds e (pops a b rest s') one both = by_none e ds (λ d. refl)
+  does_replied s t ds e (hands_out i bytes s') one both = by_none e ds (λ d. refl)
+  does_replied s t ds e (says_own at p o s') one both =
+      by_own e ds at (record { to = p; message = own_message o } ∷ []) (λ d. refl) (λ q r paths tells said. absurd (other_one q r paths tells p (own_message o) (own_silent o) said))
+  does_replied s t ds e (clears_link x s') one both = by_none e ds (λ d. refl)
+  does_replied s t ds e (expires_at now s') one both = by_none e ds (λ d. refl)
+  does_replied s t ds e (loads_rows d g s') one both = by_none e ds (λ d'. refl)
 
   abbrev Full : Transcript → Core → Type 0
-  Full ds s = AreSingle ds → All c n ds s × AllReplied ds
-
-  act_replied : (ds : Transcript) (s t : Core) (es : Transcript) → Full ds s → Acts Pin Segment c n open_of s es t → AreSingle (es ++ ds) → AllReplied (es ++ ds)
-  act_replied ds s t es held (rests s' t' same) = λ single. (held single).1
-  act_replied ds s t es held (hears i bytes m s' read) = λ single.
-      let x = give_single c n (element_of n i) (Outside i) m s [] ds single in
-      give_replied (element_of n i) (Outside i) m s [] ds x.0 (held x.1).0.0 (held x.1).1
-  act_replied ds s t es held (carries a b bytes rest m s' u is read same) = λ single.
-      let x = give_single c n b (Inner a) m u (Pops a b ∷ []) ds single in
-      let old = held x.1.1 in
-      let q = popped Pin Segment c n open_of a b rest s in
-      let both = act_both c n ds s q (Pops a b ∷ []) (λ z. (held z).0.0) (nods a b bytes rest s is) x.1 in
-      let both' = act_both c n (Pops a b ∷ ds) q u [] (λ z. both) (rests q u same) x.1 in
-      give_replied b (Inner a) m u (Pops a b ∷ []) ds x.0 both' (by_none (Pops a b) ds (λ d. refl), old.1)
-  act_replied ds s t es held (nods a b bytes rest s' is) = λ single. (by_none (Pops a b) ds (λ d. refl), (held single.1).1)
-  act_replied ds s t es held (hands i bytes s' t' same) = λ single. (by_none (Hands i bytes) ds (λ d. refl), (held single.1).1)
-  act_replied ds s t es held (rises at p s') = λ single. rise_replied at p s ds (held (rise_single c n at p s ds single)).1
-  act_replied ds s t es held (falls at p s') = λ single. fall_replied at p s ds (held (fall_single c n at p s ds single)).1
-  act_replied ds s t es held (says at p o s') = λ single.
-      let out : Output = record { to = p; message = own_message o } in
-      (by_own (Says at out) ds at (out ∷ []) (λ d. refl) (λ q r paths tells said. absurd (other_one q r paths tells p (own_message o) (own_silent o) said)), (held single.1).1)
-  act_replied ds s t es held (clears x s') = λ single. (by_none (Clears x.lower x.upper) ds (λ d. refl), (held single.1).1)
-  act_replied ds s t es held (expires now s') = λ single. (by_none (Expires now) ds (λ d. refl), (held single.1).1)
-
-  act_full : (ds : Transcript) (s t : Core) (es : Transcript) → Full ds s → Acts Pin Segment c n open_of s es t → Full (es ++ ds) t
-  act_full ds s t es held act single = (act_all c n ds s t es (λ z. (held z).0) act single, act_replied ds s t es held act single)
-
-  load_full : (ds : Transcript) (s : Plant) (d : As) (g : Rows) → Full ds s → Full (Loads d g ∷ ds) (load_new c n d g s).state
-  load_full ds s d g held single = (load_all c n ds s d g (λ z. (held z).0) single, (by_none (Loads d g) ds (λ d'. refl), (held single.1).1))
-
-  solve_full : (ds : Transcript) (s : Plant) (d : As) (k : ℕ) (h : Happened) → Full ds s → ElementSolves c n d k s h → Full (h.deeds ++ ds) h.state
-  solve_full ds s d k h held x single = (solve_all c n ds s d k h (λ z. (held z).0) x single, replied single)
-    where
-      replied : AreSingle (h.deeds ++ ds) → AllReplied (h.deeds ++ ds)
-      replied =
-          let r = commit c (place n d) (k, x.held) x.down s.clock (λ b. b.segment) (job_found x.rows.source_known x.rows.target_known x.rows.best) (s.elements d) in
-          subst (λ (h' : Happened). AreSingle (h'.deeds ++ ds) → AllReplied (h'.deeds ++ ds)) (sym x.is)
-          (λ single'. (
-            by_own (Solves d k r.outputs r.element.keys.issued) ds d r.outputs (λ d'. refl) (λ p r' paths tells said. inl (record { number = k; outputs = r.outputs; keys = r.element.keys.issued; is = refl })),
-            (held single'.1).1,
-          ))
-
-  upper_full : (ds : Transcript) (s : Plant) (k : ℕ) (h : Happened) → Full ds s → ParentSolves c n k s h → Full (h.deeds ++ ds) h.state
-  upper_full ds s k h held x single = (upper_all c n ds s k h (λ z. (held z).0) x single, replied single)
-    where
-      replied : AreSingle (h.deeds ++ ds) → AllReplied (h.deeds ++ ds)
-      replied =
-          let r = parent.commit c (k, x.held) x.answer s.parent in
-          subst (λ (h' : Happened). AreSingle (h'.deeds ++ ds) → AllReplied (h'.deeds ++ ds)) (sym x.is)
-          (λ single'. (by_parent (Solves parent_as k r.outputs []) ds parent_as r.outputs (λ d'. refl) (eq-eqb 0 0 refl), (held single'.1).1))
+  Full ds s = All c n ds s × AllReplied ds
 
   pub run_replied : (es : List Entry) (s : Plant) → Run c n es s → AreSingle (deeds_of c n es) → AllReplied (deeds_of c n es)
   run_replied es s run single =
-      (run_holds c n Full (λ z. (((bare_holds c n z, ((λ d h none. absurd none), (λ d h g none. absurd none))), (λ d h none. absurd none)), tt)) act_full (λ ds s d g given held. load_full ds s d g held) solve_full upper_full es s run single).1
+      (run_singles c n Full (λ ds s t elements above current full. (all_same c n ds s t elements above current full.0, full.1))
+      (λ ds s t e does one full. (does_all c n ds s t e does one full.0, (does_replied s t ds e does one full.0.0, full.1))) (λ z. (bare_all c n z, tt)) es s run single).1

@@ -1,5 +1,5 @@
 -- How often a peer and id are pending among rows: once at most, and an answer takes one away.
-use Rattle.std.proofs.Common.{◌≡◌, ◌+◌, ◌≤◌, ◌<◌, ◌^◌, ℕ, Bool, true, false, nat_eq, filter, List, [], ◌∷◌, ◌++◌, length, Some, None, sym, ap, subst, inl, inr, refl, arith}
+use Rattle.std.proofs.Common.{◌≡◌, ◌+◌, ◌≤◌, ◌<◌, ◌^◌, ℕ, Bool, true, false, nat_eq, List, [], ◌∷◌, ◌++◌, length, Some, None, sym, ap, subst, inl, inr, refl, arith}
 use Rattle.std.specs.Map.{remove_entry}
 use Rattle.std.proofs.lemmas.Bool.{cases_Bool, eqb-true, eq-eqb}
 use Rattle.plant_model.specs.Types.{Peer, RequestKey, Held}
@@ -43,7 +43,7 @@ count_once {T} p x (row ∷ rows) once =
       | inr miss ↦ rw miss (omega (arith, count_once p x rows once.1))
     ]
 
-above : {T : Type 0} (low high : ℕ) (rows : List (ℕ × Held T)) (h : ℕ × Held T) → NumbersRise low rows high → In h rows → low < h.0
+pub above : {T : Type 0} (low high : ℕ) (rows : List (ℕ × Held T)) (h : ℕ × Held T) → NumbersRise low rows high → In h rows → low < h.0
 above low high [] h rises in' = absurd in'
 above {T} low high (row ∷ rows) h rises (inl is) = subst (λ (r : ℕ × Held T). low < r.0) (sym is) rises.0
 above low high (row ∷ rows) h rises (inr in') = omega (arith, rises.0, above row.0 high rows h rises.1 in')
@@ -77,56 +77,6 @@ rewritten p x number item (row ∷ rows) =
       | inl hit ↦ rw hit refl
       | inr miss ↦ rw miss (ap (λ (m : ℕ). named p x row + m) (rewritten p x number item rows))
     ]
-
--- fewer rows
-weaker : {T : Type 0} (low more high : ℕ) (rows : List (ℕ × Held T)) → low ≤ more → NumbersRise more rows high → NumbersRise low rows high
-weaker low more high [] le rises = omega arith
-weaker low more high (row ∷ rows) le rises = (omega (arith, rises.0), rises.1)
-
-rise_filter : {T : Type 0} (test : ℕ × Held T → Bool) (low high : ℕ) (rows : List (ℕ × Held T)) → NumbersRise low rows high → NumbersRise low (filter test rows) high
-rise_filter test low high [] rises = rises
-rise_filter test low high (row ∷ rows) rises =
-    elim (cases_Bool (test row)) [
-      | inl hit ↦ rw hit (rises.0, rise_filter test row.0 high rows rises.1)
-      | inr miss ↦ rw miss (weaker low row.0 high (filter test rows) (omega (arith, rises.0)) (rise_filter test row.0 high rows rises.1))
-    ]
-
-none_filter : {T : Type 0} (test : ℕ × Held T → Bool) (key : RequestKey) (rows : List (ℕ × Held T)) → number_among key rows ≡ None → number_among key (filter test rows) ≡ None
-none_filter test key [] none = refl
-none_filter test key (row ∷ rows) none =
-    elim (cases_Bool (same_key key row.1.key)) [
-      | inl hit ↦ absurd (let other : Some row.0 ≡ None = rw hit at none in cc)
-      | inr miss ↦
-          let rest : number_among key rows ≡ None = rw miss at none in
-          elim (cases_Bool (test row)) [
-            | inl stays ↦ rw (stays, miss) (none_filter test key rows rest)
-            | inr goes ↦ rw goes (none_filter test key rows rest)
-          ]
-    ]
-
-once_filter : {T : Type 0} (test : ℕ × Held T → Bool) (rows : List (ℕ × Held T)) → AreNamedOnce rows → AreNamedOnce (filter test rows)
-once_filter test [] once = tt
-once_filter test (row ∷ rows) once =
-    elim (cases_Bool (test row)) [
-      | inl stays ↦ rw stays (none_filter test row.1.key rows once.0, once_filter test rows once.1)
-      | inr goes ↦ rw goes (once_filter test rows once.1)
-    ]
-
-length_filter : {A : Type 0} (test : A → Bool) (xs : List A) → length (filter test xs) ≤ length xs
-length_filter test [] = omega arith
-length_filter test (x ∷ xs) =
-    elim (cases_Bool (test x)) [
-      | inl stays ↦ rw stays (omega (arith, length_filter test xs))
-      | inr goes ↦ rw goes (omega (arith, length_filter test xs))
-    ]
-
-pub filter_pending : {T : Type 0} (test : ℕ × Held T → Bool) (t : Pending T) → ArePending t → ArePending (record t { rows = filter test t.rows })
-filter_pending test t are = record {
-  few = omega (arith, are.few, length_filter test t.rows);
-  last = are.last;
-  numbers = rise_filter test 0 t.given t.rows are.numbers;
-  names = once_filter test t.rows are.names;
-}
 
 pub ended_pending : {T : Type 0} (number : ℕ) (t : Pending T) → ArePending t → ArePending (closed_of t number)
 ended_pending number t are = closed_pending t.limit t.given number t.rows (remove_entry (nat_eq number) t.rows) are refl

@@ -20,7 +20,9 @@ use Rattle.plant_model.specs.Plant.{Pin, Segment}
 use Rattle.border_costs.proofs.Members.{contains_none}
 use Rattle.plant_laws.proofs.Runs.Rows.{In}
 use Rattle.plant_laws.proofs.Least.Spoken.{is_reply, one_said, reply_is}
-use Rattle.plant_laws.proofs.Least.StagesKept as kept
+use Rattle.plant_laws.proofs.Least.RowsKept.{found_in, readies, ends}
+use Rattle.plant_laws.proofs.Runs.TablesKept.{Keeps, in_rows}
+use Rattle.plant_laws.proofs.Runs.TakesKept.{reply_after}
 use Rattle.plant_laws.proofs.Least.Readied as readied
 use Rattle.plant_laws.proofs.Least.Readied.{FromOld}
 use Rattle.plant_laws.specs.Certified.{Tells}
@@ -134,7 +136,7 @@ module _ (to : Peer) (r : Reply) (paths : List PathRow) (tells : Tells r.answer 
 
     module _ (old : List (Row Pin)) (rs : List Reply) where
       abbrev Held_ : Element Pin Segment → Type 0
-      Held_ k = kept.Holds Pin Segment (FromOld c old p rs) c p rs (readied.made_ready c old p rs) k
+      Held_ k = Keeps (FromOld c old p rs) k.pending
 
       some_same : {X : Type 0} (x y : X) → ◌≡◌ {A = Option X} (Some x) (Some y) → x ≡ y
       some_same x y e = cc
@@ -142,9 +144,8 @@ module _ (to : Peer) (r : Reply) (paths : List PathRow) (tells : Tells r.answer 
       one_says : (reply : Reply) → In reply rs → (k : Element Pin Segment) → Held_ k → OneTold to r (take_reply c p reply k).outputs → IsPassedOn old rs
       one_says reply i k held said =
           let a = answer_says reply k (waiting p reply.id k.pending.rows) said in
-          let waits = kept.found_waits Pin Segment (FromOld c old p rs) c p rs (readied.made_ready c old p rs) p reply.id k.pending.rows a.0 a.1 in
-          let there = subst (λ (o : Option (Row Pin)). kept.Found Pin Segment (FromOld c old p rs) c p rs (readied.made_ready c old p rs) k o) a.1 (kept.found Pin Segment (FromOld c old p rs) c p rs (readied.made_ready c old p rs) p reply.id k) in
-          go a.0 a.2 waits (kept.in_rows Pin Segment (FromOld c old p rs) c p rs (readied.made_ready c old p rs) a.0 k.pending.rows held.rows there)
+          let found = found_in p reply.id k.pending.rows a.0 a.1 in
+          go a.0 a.2 found.1 (in_rows (FromOld c old p rs) a.0 k.pending.rows held.rows found.0)
         where
           go : (h : Row Pin) → IsPassed h reply → waits_for p reply.id h.1.item.stage ≡ true → FromOld c old p rs h.1 → IsPassedOn old rs
           go h passed waits (inl q) = record {
@@ -165,5 +166,5 @@ module _ (to : Peer) (r : Reply) (paths : List PathRow) (tells : Tells r.answer 
             | inl here ↦ one_says x (within x (inl refl)) k held here
             | inr later ↦
                 replies_say xs (λ y i. within y (inr i)) (take_reply c p x k).element
-                (kept.reply_after Pin Segment (FromOld c old p rs) c p rs (readied.made_ready c old p rs) x (within x (inl refl)) k held) later
+                (reply_after Held_ (ends (FromOld c old p rs)) c p rs (readies (FromOld c old p rs) c p rs (readied.made_ready c old p rs)) x (within x (inl refl)) k held) later
           ]

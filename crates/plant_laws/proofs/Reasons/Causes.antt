@@ -3,8 +3,7 @@
 use Rattle.std.proofs.Common.{◌≡◌, ◌⊎◌, ℕ, length, Bool, true, false, cond, ◌==◌, Option, Some, None, List, [], ◌∷◌, ◌++◌, inl, inr, sym, ◌∙◌, ap, subst, refl, arith}
 use Rattle.std.specs.Prelude.{Contains, map}
 use Rattle.std.proofs.lemmas.List.Elements.{Contains-append_cases}
-use Rattle.plant_model.specs.Types.{As, Addr, Peer, Outside, Inner, Asked, Answer, Message, Path as PathRow, Reply, Request, Wanted, Wish, Own, NetworkParts}
-use Rattle.te_links.specs.Rows.{Rows}
+use Rattle.plant_model.specs.Types.{As, Addr, Peer, Inner, Asked, Answer, Message, Path as PathRow, Reply, Request, Wanted, Wish, Own, NetworkParts}
 use Rattle.disclosure.specs.Shown.{open_of}
 use Rattle.pcep_messages.specs.declared.message.Answer.TheVariants.{Paths, NoPath}
 use Rattle.pcep_messages.specs.declared.message.Message.TheVariants as messages
@@ -17,7 +16,7 @@ use Rattle.plant_model.specs.Names.{has_pair}
 use Rattle.plant_model.specs.Wire.{Codec, Checked, Admitted, Wrong}
 use Rattle.plant_model.specs.Writing.{request_message, reply_message, error_message, no_key, unavailable, busy}
 use Rattle.plant_model.specs.Laws.{Admits}
-use Rattle.plant_model.specs.Element.{Way, fresh_id, with_last, lost_output, lost, upped, downed}
+use Rattle.plant_model.specs.Element.{Way, fresh_id, with_last, lost_output, lost, downed}
 use Rattle.plant_model.specs.Taking.{take}
 use Rattle.plant_model.specs.Solving.{commit, job_found}
 use Rattle.plant_model.specs.Parent as parent
@@ -25,19 +24,18 @@ use Rattle.plant_model.specs.Parent.{Parent, ParentTaken, Family, AskingRow, Err
 use Rattle.plant_text.specs.Settings.{class_of}
 use Rattle.plant_model.specs.Settings.{place, family}
 use Rattle.plant_model.specs.State.{State, Deed, Loads, Pops, Takes, Says, Ups, Downs, Clears, Solves, Expires, Hands}
-use Rattle.plant_model.specs.Deeds.{Going, element_of, own_message, with_parent, with_element, puts, give, rise, fall}
-use Rattle.plant_model.specs.Plant.{Pin, Segment, Plant, PlantDeed, Happened, Entry, Run, deeds_of, load_new, ElementSolves, ParentSolves}
-use Rattle.plant_laws.specs.Transcript.{Transcript, outputs_at}
-use Rattle.plant_laws.proofs.Runs.Acts.{Acts, rests, hears, carries, nods, hands, rises, falls, says, clears, expires}
+use Rattle.plant_model.specs.Deeds.{own_message}
+use Rattle.plant_model.specs.Plant.{Pin, Segment, Plant, PlantDeed, Entry, Run, deeds_of}
+use Rattle.plant_laws.specs.Transcript.{outputs_at}
+use Rattle.plant_laws.proofs.Runs.Acts.{says}
 use Rattle.plant_laws.proofs.Runs.Decompose.{nil_right}
 use Rattle.plant_laws.proofs.Runs.Queues.{same_as_is}
-use Rattle.plant_laws.proofs.Runs.Induction.{run_holds}
 use Rattle.border_costs.proofs.Members.{contains_none, contains_head, contains_cases}
 use Rattle.plant_laws.proofs.Once.Handing.{In, IsAsk}
 use Rattle.plant_laws.proofs.Numbering.Sends.{NoneAsks, Each}
 use Rattle.plant_laws.proofs.Once.Takes.{IsSingle, own_is}
-use Rattle.plant_laws.proofs.Once.Opened.{AreSingle}
-use Rattle.plant_laws.proofs.Once.OpenedRuns.{give_single, fall_single, rise_single}
+use Rattle.plant_laws.proofs.Once.Opened.{AreSingle, single_deed}
+use Rattle.plant_laws.proofs.Once.DeedByDeed.{Does, takes_above, takes_below, downs_above, downs_below, ups_above, ups_below, solves_above, solves_below, pops, hands_out, says_own, clears_link, expires_at, loads_rows, run_singles}
 use Rattle.plant_laws.proofs.Numbering.Onward.{GoesTo, take_of, way_peer, none_lost, calm_commit}
 use Rattle.plant_laws.proofs.Least.Given.{OfSolve, OfKey}
 use Rattle.plant_laws.proofs.Least.Spoken.{one_said, reply_is}
@@ -223,16 +221,6 @@ module _ (c : Codec) (n : NetworkParts) where
   abbrev Core : Type 0
   Core = State Pin Segment
 
-  abbrev AllHave : Transcript → Type 0
-  AllHave ds = Each (HasCause c n) ds
-
-  abbrev If : Transcript → Core → Type 0
-  If ds s = AreSingle ds → AllHave ds
-
-  split : (ds : Transcript) (b : Bool) (g h : Going Pin Segment) → (b ≡ true → AllHave (g.deeds ++ ds)) → (b ≡ false → AllHave (h.deeds ++ ds)) → AllHave ((cond b g h).deeds ++ ds)
-  split ds true g h up low = up refl
-  split ds false g h up low = low refl
-
   -- an element says nothing at the parent
   elsewhere : (e : Deed Segment) (d : As) (os : List Output) → same_as d parent_as ≡ false → outputs_at parent_as e ≡ cond (same_as d parent_as) os [] → SaysAbove c e
   elsewhere e d os low outs p r paths said tells =
@@ -259,60 +247,33 @@ module _ (c : Codec) (n : NetworkParts) where
         flags = x.2.flags;
       })
 
-  give_has : (at : As) (p : Peer) (m : Message) (s : Core) (es ds : Transcript) → IsSingle m → AllHave (es ++ ds) → AllHave ((give Pin Segment c n open_of at p m (record { state = s; deeds = es })).deeds ++ ds)
-  give_has at p m s es ds one all =
-      let r = parent.take c (family n) p m s.parent in
-      let t = take c open_of (place n at) (s.current at) p (class_of n p) s.clock m (s.elements at) in
-      split ds (same_as at parent_as)
-      (record { state = puts Pin Segment c n open_of at r.outputs (with_parent Pin Segment c n open_of r.parent s); deeds = Takes at p m r.outputs ∷ es })
-      (record { state = puts Pin Segment c n open_of at t.outputs (with_element Pin Segment c n open_of at t.element s); deeds = Takes at p m t.outputs ∷ es })
-      (λ up. (((λ low. absurd (let clash : true ≡ false = sym up ∙ low in cc)), above_takes at p m s.parent one up), all))
-      (λ low. (((λ low' o i ask. asks o i ask), elsewhere (Takes at p m t.outputs) at t.outputs low refl), all))
+  asks : (at : As) (p : Peer) (m : Message) (s : Core) → IsSingle m → (o : Output) → In o (take c open_of (place n at) (s.current at) p (class_of n p) s.clock m (s.elements at)).outputs → IsAsk o.message → IsOf c n at m o
+  asks at p m s single o i ask = elim (take_of Pin Segment c open_of (place n at) (s.current at) p (class_of n p) s.clock (s.elements at) m single) [
+    | inl calm ↦ absurd (none_in (take c open_of (place n at) (s.current at) p (class_of n p) s.clock m (s.elements at)).outputs calm.none o i ask)
+    | inr x ↦
+        let f = x.2 in
+        let y = fresh_id f.way.peer f.way.last_id (s.elements at).pending.rows in
+        let one : Output = record { to = f.way.peer; message = request_message y f.wanted f.wanted.target f.rest } in
+        record {
+          taken = x.0;
+          is = x.1;
+          flags = f.flags;
+          x = f.id;
+          wanted = f.wanted;
+          admits = subst (λ (z : Asked). c.check z at ≡ Admitted (record { flags = f.flags; id = f.id; wish = Path f.wanted })) x.3
+              (subst (λ (z : As). c.check f.asked z ≡ Admitted (record { flags = f.flags; id = f.id; wish = Path f.wanted })) (own_is n at) f.admitted);
+          id = y;
+          to = f.to;
+          rest = f.rest;
+          goes = f.goes;
+          sends = at_head one (subst (λ (l : List Output). In o l) f.outs i)
+              ∙ ap (λ (z : Peer). let u : Output = record { to = z; message = request_message y f.wanted f.wanted.target f.rest } in u) (way_peer f.to (s.elements at).ways f.way f.found);
+        }
+  ]
     where
-      asks : (o : Output) → In o (take c open_of (place n at) (s.current at) p (class_of n p) s.clock m (s.elements at)).outputs → IsAsk o.message → IsOf c n at m o
-      asks o i ask = elim (take_of Pin Segment c open_of (place n at) (s.current at) p (class_of n p) s.clock (s.elements at) m one) [
-        | inl calm ↦ absurd (none_in (take c open_of (place n at) (s.current at) p (class_of n p) s.clock m (s.elements at)).outputs calm.none o i ask)
-        | inr x ↦
-            let f = x.2 in
-            let y = fresh_id f.way.peer f.way.last_id (s.elements at).pending.rows in
-            let one : Output = record { to = f.way.peer; message = request_message y f.wanted f.wanted.target f.rest } in
-            record {
-              taken = x.0;
-              is = x.1;
-              flags = f.flags;
-              x = f.id;
-              wanted = f.wanted;
-              admits = subst (λ (z : Asked). c.check z at ≡ Admitted (record { flags = f.flags; id = f.id; wish = Path f.wanted })) x.3
-                  (subst (λ (z : As). c.check f.asked z ≡ Admitted (record { flags = f.flags; id = f.id; wish = Path f.wanted })) (own_is n at) f.admitted);
-              id = y;
-              to = f.to;
-              rest = f.rest;
-              goes = f.goes;
-              sends = at_head one (subst (λ (l : List Output). In o l) f.outs i)
-                  ∙ ap (λ (z : Peer). let u : Output = record { to = z; message = request_message y f.wanted f.wanted.target f.rest } in u) (way_peer f.to (s.elements at).ways f.way f.found);
-            }
-      ]
-        where
-          at_head : (u : Output) → In o (u ∷ []) → o ≡ u
-          at_head u (inl same) = same
-          at_head u (inr none) = absurd none
-
-  fall_has : (at : As) (p : Peer) (s : Core) (ds : Transcript) → AllHave ds → AllHave ((fall Pin Segment c n open_of at p (record { state = s; deeds = [] })).deeds ++ ds)
-  fall_has at p s ds all =
-      let r = parent.downed p s.parent in
-      let t = downed p (s.elements at) in
-      split ds (same_as at parent_as)
-      (record { state = puts Pin Segment c n open_of at r.outputs (with_parent Pin Segment c n open_of r.parent s); deeds = Downs at p r.outputs ∷ [] })
-      (record { state = puts Pin Segment c n open_of at t.outputs (with_element Pin Segment c n open_of at t.element s); deeds = Downs at p t.outputs ∷ [] })
-      (λ up. (((λ low. none_lost (parent.lost p s.parent.pending.rows)), (λ q x paths said tells. absurd (lost_silent q x paths tells (parent.lost p s.parent.pending.rows) (subst (λ (b : Bool). OneTold q x (cond b r.outputs [])) up said)))), all))
-      (λ low. (((λ low'. none_lost (lost p (s.elements at).pending.rows)), elsewhere (Downs at p t.outputs) at t.outputs low refl), all))
-
-  rise_has : (at : As) (p : Peer) (s : Core) (ds : Transcript) → AllHave ds → AllHave ((rise Pin Segment c n open_of at p (record { state = s; deeds = [] })).deeds ++ ds)
-  rise_has at p s ds all =
-      split ds (same_as at parent_as)
-      (record { state = with_parent Pin Segment c n open_of (parent.upped p s.parent) s; deeds = Ups at p ∷ [] })
-      (record { state = with_element Pin Segment c n open_of at (upped p (s.elements at)) s; deeds = Ups at p ∷ [] })
-      (λ up. ((tt, no_output (Ups at p) refl), all)) (λ low. ((tt, no_output (Ups at p) refl), all))
+      at_head : (u : Output) → In o (u ∷ []) → o ≡ u
+      at_head u (inl same) = same
+      at_head u (inr none) = absurd none
 
   says_silent : (at : As) (p : Peer) (o : Own) → SaysAbove c (Says at (record { to = p; message = own_message o }))
   says_silent at p o q r paths said tells = go (same_as at parent_as) said
@@ -321,22 +282,6 @@ module _ (c : Codec) (n : NetworkParts) where
       go true said' = absurd (other_one q r paths tells p (own_message o) (own_silent o) said')
       go false said' = absurd (contains_none _ said')
 
-  act_has : (ds : Transcript) (s t : Core) (es : Transcript) → If ds s → Acts Pin Segment c n open_of s es t → If (es ++ ds) t
-  act_has ds s t es held (rests s' t' same) single = held single
-  act_has ds s t es held (hears i bytes m s' read) single =
-      let x = give_single c n (element_of n i) (Outside i) m s [] ds single in
-      give_has (element_of n i) (Outside i) m s [] ds x.0 (held x.1)
-  act_has ds s t es held (carries a b bytes rest m s' u is read same) single =
-      let x = give_single c n b (Inner a) m u (Pops a b ∷ []) ds single in
-      give_has b (Inner a) m u (Pops a b ∷ []) ds x.0 ((tt, no_output (Pops a b) refl), held x.1.1)
-  act_has ds s t es held (nods a b bytes rest s' is) single = ((tt, no_output (Pops a b) refl), held single.1)
-  act_has ds s t es held (hands i bytes s' t' same) single = ((tt, no_output (Hands i bytes) refl), held single.1)
-  act_has ds s t es held (rises at p s') single = rise_has at p s ds (held (rise_single c n at p s ds single))
-  act_has ds s t es held (falls at p s') single = fall_has at p s ds (held (fall_single c n at p s ds single))
-  act_has ds s t es held (says at p o s') single = ((own_none o, says_silent at p o), held single.1)
-  act_has ds s t es held (clears x s') single = ((tt, no_output (Clears x.lower x.upper) refl), held single.1)
-  act_has ds s t es held (expires now s') single = ((tt, no_output (Expires now) refl), held single.1)
-
   solved_says : (d : As) (k : ℕ) (os : List Output) (keys : _) → SaysAbove c (Solves d k os keys)
   solved_says d k os keys p r paths said tells = go (same_as d parent_as) refl said
     where
@@ -344,20 +289,27 @@ module _ (c : Codec) (n : NetworkParts) where
       go true up said' = inl (record { number = k; outputs = os; keys = keys; is = ap (λ (z : As). let e : PlantDeed = Solves z k os keys in e) (same_as_is d parent_as up) })
       go false low said' = absurd (contains_none _ said')
 
-  solve_has : (ds : Transcript) (s : Plant) (d : As) (k : ℕ) (h : Happened) → If ds s → ElementSolves c n d k s h → If (h.deeds ++ ds) h.state
-  solve_has ds s d k h held x =
+  does_have : (s t : Core) (e : PlantDeed) → Does c n s e t → single_deed e → HasCause c n e
+  does_have s t e (takes_above at p m s' up) one = ((λ low. absurd (let clash : true ≡ false = sym up ∙ low in cc)), above_takes at p m s.parent one up)
+  does_have s t e (takes_below at p m s' low heard) one =
+      ((λ low' o i ask. asks at p m s one o i ask), elsewhere e at (take c open_of (place n at) (s.current at) p (class_of n p) s.clock m (s.elements at)).outputs low refl)
+  does_have s t e (downs_above at p s' up) one = (
+    (λ low. none_lost (parent.lost p s.parent.pending.rows)),
+    (λ q x paths said tells. absurd (lost_silent q x paths tells (parent.lost p s.parent.pending.rows) (subst (λ (b : Bool). OneTold q x (cond b (parent.downed p s.parent).outputs [])) up said))),
+  )
+  does_have s t e (downs_below at p s' low) one = ((λ low'. none_lost (lost p (s.elements at).pending.rows)), elsewhere e at (downed p (s.elements at)).outputs low refl)
+  does_have s t e (ups_above at p s' up) one = (tt, no_output e refl)
+  does_have s t e (ups_below at p s' low) one = (tt, no_output e refl)
+  does_have s t e (solves_above k h s' x) one = ((λ low. absurd (let clash : true ≡ false = low in cc)), solved_says parent_as k (parent.commit c (k, x.held) x.answer s.parent).outputs [])
+  does_have s t e (solves_below d k h s' x) one =
       let r = commit c (place n d) (k, x.held) x.down s.clock (λ b. b.segment) (job_found x.rows.source_known x.rows.target_known x.rows.best) (s.elements d) in
-      subst (λ (h' : Happened). If (h'.deeds ++ ds) h'.state) (sym x.is)
-      (λ single. (((λ low. (calm_commit Pin Segment c (place n d) (k, x.held) x.down s.clock (λ b. b.segment) x.rows.source_known x.rows.target_known x.rows.best (s.elements d)).none), solved_says d k r.outputs r.element.keys.issued), held single.1))
-
-  upper_has : (ds : Transcript) (s : Plant) (k : ℕ) (h : Happened) → If ds s → ParentSolves c n k s h → If (h.deeds ++ ds) h.state
-  upper_has ds s k h held x =
-      let r = parent.commit c (k, x.held) x.answer s.parent in
-      subst (λ (h' : Happened). If (h'.deeds ++ ds) h'.state) (sym x.is)
-      (λ single. (((λ low. absurd (let clash : true ≡ false = low in cc)), solved_says parent_as k r.outputs []), held single.1))
-
-  load_has : (ds : Transcript) (s : Plant) (d : As) (g : Rows) → If ds s → If (Loads d g ∷ ds) (load_new c n d g s).state
-  load_has ds s d g held single = ((tt, no_output (Loads d g) refl), held single.1)
+      ((λ low. (calm_commit Pin Segment c (place n d) (k, x.held) x.down s.clock (λ b. b.segment) x.rows.source_known x.rows.target_known x.rows.best (s.elements d)).none), solved_says d k r.outputs r.element.keys.issued)
+  does_have s t e (pops a b rest s') one = (tt, no_output e refl)
+  does_have s t e (hands_out i bytes s') one = (tt, no_output e refl)
+  does_have s t e (says_own at p o s') one = (own_none o, says_silent at p o)
+  does_have s t e (clears_link x s') one = (tt, no_output e refl)
+  does_have s t e (expires_at now s') one = (tt, no_output e refl)
+  does_have s t e (loads_rows d g s') one = (tt, no_output e refl)
 
   pub run_has : (es : List Entry) (s : Plant) → Run c n es s → AreSingle (deeds_of c n es) → Each (HasCause c n) (deeds_of c n es)
-  run_has = run_holds c n If (λ single. tt) act_has (λ ds s d g given held. load_has ds s d g held) solve_has upper_has
+  run_has = run_singles c n (λ ds s. Each (HasCause c n) ds) (λ ds s t elements above current all. all) (λ ds s t e does one all. (does_have s t e does one, all)) (λ single. tt)

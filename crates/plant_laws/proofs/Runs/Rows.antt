@@ -41,7 +41,7 @@ in_append x (z ∷ xs) ys (inr h) = elim (in_append x xs ys h) [ inl l ↦ inl (
 other_number : (a b : ℕ) → a < b → nat_eq b a ≡ false
 other_number a b lt = grind (arith, common_steps)
 
-rises_above : {T : Type 0} (low high : ℕ) (rows : List (ℕ × Held T)) (h : ℕ × Held T) → NumbersRise low rows high → In h rows → low < h.0
+pub rises_above : {T : Type 0} (low high : ℕ) (rows : List (ℕ × Held T)) (h : ℕ × Held T) → NumbersRise low rows high → In h rows → low < h.0
 rises_above low high [] h rises none = absurd none
 rises_above low high (row ∷ rows) h rises (inl e) = subst (λ (r : ℕ × Held _). low < r.0) e rises.0
 rises_above low high (row ∷ rows) h rises (inr more) = omega (arith, rises.0, rises_above row.0 high rows h rises.1 more)
@@ -164,7 +164,7 @@ NumbersRise-weaker : {T : Type 0} (low more high : ℕ) (rows : List (ℕ × Hel
 NumbersRise-weaker low more high [] le rises = omega arith
 NumbersRise-weaker low more high (row ∷ rows) le rises = (omega (arith, rises.0), rises.1)
 
-NumbersRise-filter : {T : Type 0} (t : ℕ × Held T → Bool) (low high : ℕ) (rows : List (ℕ × Held T)) → NumbersRise low rows high → NumbersRise low (filter t rows) high
+pub NumbersRise-filter : {T : Type 0} (t : ℕ × Held T → Bool) (low high : ℕ) (rows : List (ℕ × Held T)) → NumbersRise low rows high → NumbersRise low (filter t rows) high
 NumbersRise-filter t low high [] rises = rises
 NumbersRise-filter t low high (row ∷ rows) rises =
     elim (cases_Bool (t row)) [

@@ -6,10 +6,10 @@ use Rattle.te_links.specs.Rows.{IsInOrder}
 use Rattle.plant_model.specs.Wire.{Codec}
 use Rattle.plant_model.specs.Element.{Item}
 use Rattle.plant_text.specs.Settings.{class_of}
-use Rattle.plant_model.specs.Plant.{Pin, Segment, Plant, Entry, Run}
-use Rattle.plant_laws.proofs.Runs.Topologies.{run_good, domain_under}
-use Rattle.plant_laws.proofs.Runs.Classes.{run_classed, HasClass, class_stays}
-use Rattle.plant_laws.proofs.Least.RowsKept.{found_under}
+use Rattle.plant_model.specs.Plant.{Pin, Plant, Entry, Run}
+use Rattle.plant_laws.proofs.Runs.Topologies.{run_pinned, domain_under}
+use Rattle.plant_laws.proofs.Runs.Classes.{run_classed, HasClass}
+use Rattle.plant_laws.proofs.Runs.TablesKept.{found_under}
 
 abbrev pub IsFit : NetworkParts → Held (Item Pin) → Type 0
 IsFit n h = (h.item.class ≡ class_of n h.key.peer) × IsInOrder h.item.pin.topology
@@ -19,6 +19,6 @@ Sound n s = (d : As) (k : ℕ) (h : Held (Item Pin)) → lookup (nat_eq k) (s.el
 
 pub run_sound : (c : Codec) (n : NetworkParts) (es : List Entry) (s : Plant) → Run c n es s → Sound n s
 run_sound c n es s run d k h is = (
-  found_under Pin Segment (HasClass n) (class_stays n) k (s.elements d).pending.rows h (run_classed c n es s run d).rows is,
-  (domain_under d k (s.elements d).pending.rows h ((run_good c n es s run).pinned d) is).order,
+  found_under (HasClass n) k (s.elements d).pending.rows h (run_classed c n es s run d).rows is,
+  (domain_under d k (s.elements d).pending.rows h ((run_pinned c n es s run).elements d) is).order,
 )

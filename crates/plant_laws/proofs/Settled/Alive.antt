@@ -24,7 +24,7 @@ use Rattle.plant_laws.specs.Sending.{AllSent}
 use Rattle.plant_laws.proofs.Runs.Queues.{same_as_is}
 use Rattle.plant_laws.proofs.Once.Handing.{In}
 use Rattle.plant_laws.proofs.Numbering.Sends.{Each}
-use Rattle.plant_laws.proofs.Once.Answering.{puts_elements, puts_parent}
+use Rattle.plant_laws.proofs.Once.Opened.{puts_elements, puts_parent}
 use Rattle.plant_laws.proofs.Once.Leaving as lower
 use Rattle.plant_laws.proofs.Once.Leaving.{Answers, Answered, CancelNone}
 use Rattle.plant_laws.proofs.Once.LeavingUpper as upper

@@ -27,10 +27,9 @@ use Rattle.plant_laws.proofs.Runs.Queues.{same_as_is, Stand}
 use Rattle.plant_laws.proofs.Runs.Rows as table
 use Rattle.plant_laws.proofs.Once.OpenedRuns.{lookup_in}
 use Rattle.plant_laws.proofs.WrittenForm.ReadBack.{standing_sent}
-use Rattle.plant_laws.proofs.Once.Opened.{set_pending}
+use Rattle.plant_laws.proofs.Once.Opened.{set_pending, puts_elements, puts_parent}
 use Rattle.plant_laws.proofs.Once.Handing.{In}
 use Rattle.plant_laws.proofs.Runs.Sessions.{IsKept}
-use Rattle.plant_laws.proofs.Once.Answering.{puts_elements, puts_parent}
 use Rattle.plant_laws.proofs.Runs.Trips.{Step, rests, hears, carries, keeps, hands, rises, shuts, says, expires, breaks, drops, with_rest}
 use Rattle.plant_laws.proofs.Once.Leaving as lower
 use Rattle.plant_laws.proofs.Once.Leaving.{In-front, Answers, by_reply, by_notice, by_error, by_refusal}

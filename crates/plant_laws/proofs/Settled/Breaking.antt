@@ -20,7 +20,7 @@ use Rattle.plant_laws.specs.Standing.{messages as messages_in}
 use Rattle.plant_laws.proofs.Runs.Decompose.{nil_right}
 use Rattle.plant_laws.proofs.Runs.Queues.{same_as_is}
 use Rattle.plant_laws.proofs.Once.Handing.{In}
-use Rattle.plant_laws.proofs.Once.Answering.{puts_elements, puts_parent}
+use Rattle.plant_laws.proofs.Once.Opened.{puts_elements, puts_parent}
 use Rattle.plant_laws.proofs.Runs.Trips.{broken}
 use Rattle.plant_laws.proofs.Once.Leaving as lower
 use Rattle.plant_laws.proofs.Once.Leaving.{In-front, In-back, Answers, Answered}

@@ -1,14 +1,14 @@
 -- The law that runs are confined: what is pending came from somebody who is heard, and nobody is heard but at elements and at the
 -- parent of a network that has one.
-use Rattle.std.proofs.Common.{◌≡◌, ◌⊎◌, ◌≤◌, ℕ, zero, suc, Bool, true, false, cond, nat_lt, List, [], ◌∷◌, ◌++◌, Option, Some, None, is_some, sym, ◌∙◌, ap, subst, inl, inr, refl, arith}
+use Rattle.std.proofs.Common.{◌≡◌, ◌⊎◌, ℕ, zero, suc, Bool, true, false, cond, nat_lt, List, [], ◌∷◌, ◌++◌, Option, Some, None, is_some, sym, ◌∙◌, ap, subst, inl, inr, refl, arith}
 use Rattle.std.specs.Prelude.{All}
 use Rattle.std.proofs.lemmas.Bool.{cases_Bool, eq-eqb}
 use Rattle.std.proofs.lemmas.List.Elements.{All-head, All-tail}
 use Rattle.plant_model.specs.Types.{As, Peer, Outside, Inner, Held, NetworkParts, ElementRow, PeerRow}
-use Rattle.plant_text.specs.Names.{same_as, same_link, parent_as, insert_as}
+use Rattle.plant_text.specs.Names.{same_as, parent_as, insert_as}
 use Rattle.plant_text.specs.Settings.{Adjacency, adjacency, before_adjacency, insert_adjacency, sorted, upward, children_of, adjacencies, has_adjacency, is_linked, is_element, row_of, peer_row}
 use Rattle.plant_model.specs.Laws.{IsNetwork}
-use Rattle.plant_model.specs.Deeds.{at_row, element_of}
+use Rattle.plant_model.specs.Deeds.{at_row}
 use Rattle.plant_model.specs.Element.{Item}
 use Rattle.plant_model.specs.Parent.{Asking}
 use Rattle.plant_model.specs.State.{Connection}

@@ -1,8 +1,6 @@
 -- In every state of a run all stands along links, at elements and the parent, and at outside peers of the settings.
-use Rattle.std.proofs.Common.{◌≡◌, ◌≢◌, ℕ, suc, ◌+◌, ◌%◌, Bool, true, false, cond, ◌==◌, nat_lt, List, [], ◌∷◌, ◌++◌, map, Option, Some, None, is_some, sym, ◌∙◌, ap, subst, inl, inr, refl, arith}
-use Rattle.std.specs.Prelude.{All}
+use Rattle.std.proofs.Common.{◌≡◌, ℕ, ◌+◌, ◌%◌, Bool, true, false, cond, ◌==◌, nat_lt, List, [], ◌∷◌, ◌++◌, map, Option, Some, None, is_some, sym, ◌∙◌, ap, subst, inl, inr, refl}
 use Rattle.std.proofs.lemmas.Bool.{eqb-true, eq-eqb}
-use Rattle.std.proofs.lemmas.List.Elements.{All-head, All-tail}
 use Rattle.plant_model.specs.Types.{As, Tick, Peer, Outside, Inner, Message, Input, Action, Own, State as Session, NetworkParts, PeerRow}
 use Rattle.pcep_session.specs.declared.session.Input.TheVariants as input
 use Rattle.pcep_session.specs.declared.actions.Action.TheVariants as action
@@ -17,7 +15,7 @@ use Rattle.plant_model.specs.declared.outcome.Refused.TheVariants.{NoSuchPeer}
 use Rattle.plant_model.specs.declared.route.Route.{Route}
 use Rattle.plant_model.specs.Names.{is_empty, set_as, set_number, set_pair}
 use Rattle.plant_model.specs.Wire.{Bytes, Codec}
-use Rattle.plant_model.specs.Element.{Item, Element, Way, upped, downed}
+use Rattle.plant_model.specs.Element.{Item, Element, upped, downed}
 use Rattle.plant_model.specs.Taking.{take}
 use Rattle.plant_model.specs.Solving.{commit, job_found}
 use Rattle.plant_model.specs.Parent as parent
@@ -25,7 +23,7 @@ use Rattle.plant_model.specs.Parent.{Asking}
 use Rattle.plant_model.specs.Settings.{place, family, way, ways_along, inner_ways, outer_way}
 use Rattle.plant_model.specs.Routes.{routes}
 use Rattle.plant_model.specs.State.{Connection, Access, Pops, Takes, Ups, Downs}
-use Rattle.plant_model.specs.Deeds.{Going, element_of, is_due, is_tick, is_out_empty, any_fall, our_offer, on_connection, with_more, with_session, with_inbox, input_of, with_parent, with_element, own_message, put, put_to, puts, give, rise, fall, say, clear, expire, outside_act, outside_acts, outside_step, outside_input, inner_act, inner_acts, inner_input, begin_end, begin_adjacency, break_adjacency, tick_outside, tick_adjacencies, with_access, with_inner}
+use Rattle.plant_model.specs.Deeds.{Going, element_of, is_due, is_tick, is_out_empty, any_fall, our_offer, on_connection, with_more, with_session, with_inbox, input_of, with_parent, with_element, own_message, put, put_to, puts, give, rise, fall, say, clear, outside_act, outside_acts, outside_step, outside_input, inner_act, inner_acts, inner_input, begin_end, begin_adjacency, break_adjacency, tick_outside, tick_adjacencies, with_access, with_inner}
 use Rattle.plant_model.specs.Outside.{heeded}
 use Rattle.plant_model.specs.Events as events
 use Rattle.plant_model.specs.Events.{is_down}

@@ -1,5 +1,5 @@
 -- A network at rest is quiet, since in a run nothing stands beyond its links and elements.
-use Rattle.std.proofs.Common.{◌≡◌, ℕ, nat_eq, Bool, true, false, cond, List, [], is_some, inl, inr, ap, ◌∙◌, refl}
+use Rattle.std.proofs.Common.{◌≡◌, ℕ, nat_eq, Bool, true, false, cond, List, is_some, inl, inr, ap}
 use Rattle.std.specs.Map.{lookup}
 use Rattle.std.proofs.lemmas.Bool.{cases_Bool}
 use Rattle.plant_model.specs.Types.{As, Held, NetworkParts}

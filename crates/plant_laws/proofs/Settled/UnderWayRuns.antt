@@ -29,8 +29,8 @@ use Rattle.plant_laws.proofs.Runs.Acts.{Acts}
 use Rattle.plant_laws.proofs.Runs.Queues.{Stand, act_stands, sent_stands, left_stands}
 use Rattle.plant_laws.proofs.Once.Handing.{In}
 use Rattle.plant_laws.proofs.Runs.Rows as table
-use Rattle.plant_laws.proofs.Once.OpenedRuns.{bare_holds}
-use Rattle.plant_laws.proofs.Settled.Waits.{IfBoth, Both, act_both, load_both, solve_both, upper_both}
+use Rattle.plant_laws.proofs.Settled.Waits.{Both, both_same, does_both, bare_both}
+use Rattle.plant_laws.proofs.Once.DeedByDeed.{If, if_same, if_kept, act_keeps, load_keeps, solve_keeps, upper_keeps}
 use Rattle.plant_laws.proofs.Runs.Unrouted.{way_inside}
 use Rattle.plant_laws.proofs.Runs.Trips.{AllIn, Step}
 use Rattle.plant_laws.proofs.Runs.StepActs.{step_holds}
@@ -130,7 +130,7 @@ module _ (c : Codec) (n : NetworkParts) (codec : IsCodec c) (net : IsNetwork n) 
   -- ---- the induction
 
   abbrev Base : Transcript → Core → Type 0
-  Base ds s = IfBoth c n ds s × Stand c n ds s × (Prem c n codec net ds → Known c n codec net ds s)
+  Base ds s = If c n (Both c n) ds s × Stand c n ds s × (Prem c n codec net ds → Known c n codec net ds s)
 
   prem_drop : (es ds : Transcript) → Prem c n codec net (es ++ ds) → Prem c n codec net ds
   prem_drop [] ds p = p
@@ -142,7 +142,7 @@ module _ (c : Codec) (n : NetworkParts) (codec : IsCodec c) (net : IsNetwork n) 
 
   act_base : (ds : Transcript) (s t : Core) (es : Transcript) → Base ds s → Acts Pin Segment c n open_of s es t → Base (es ++ ds) t
   act_base ds s t es base act = (
-    act_both c n ds s t es base.0 act,
+    act_keeps c n (If c n (Both c n)) (if_same c n (Both c n) (both_same c n)) (if_kept c n (Both c n) (does_both c n)) ds s t es base.0 act,
     act_stands c n ds s t es base.1 act,
     λ prem.
         let old = prem_drop es ds prem in
@@ -179,14 +179,14 @@ module _ (c : Codec) (n : NetworkParts) (codec : IsCodec c) (net : IsNetwork n) 
 
   load_inv : (ds : Transcript) (s : Plant) (d : As) (g : Rows) → Inv ds s → Inv (Loads d g ∷ ds) (load_new c n d g s).state
   load_inv ds s d g inv = (
-    (load_both c n ds s d g inv.0.0, left_stands c n s s ds (Loads d g) (λ a. refl) (λ a b. inv.0.1 a b), λ prem. load_known c n codec net ds s d g (inv.0.2 (prem_tail c n codec net (Loads d g) ds prem))),
+    (load_keeps c n (If c n (Both c n)) (if_same c n (Both c n) (both_same c n)) (if_kept c n (Both c n) (does_both c n)) ds s d g inv.0.0, left_stands c n s s ds (Loads d g) (λ a. refl) (λ a b. inv.0.1 a b), λ prem. load_known c n codec net ds s d g (inv.0.2 (prem_tail c n codec net (Loads d g) ds prem))),
     λ prem cancels. load_alive c n codec ds s d g (inv.1 (prem_tail c n codec net (Loads d g) ds prem) cancels.1),
   )
 
   solve_inv : (ds : Transcript) (s : Plant) (d : As) (k : ℕ) (h : Happened) → Inv ds s → ElementSolves c n d k s h → Inv (h.deeds ++ ds) h.state
   solve_inv ds s d k h inv x =
       let base : Base (h.deeds ++ ds) h.state = (
-        solve_both c n ds s d k h inv.0.0 x,
+        solve_keeps c n (If c n (Both c n)) (if_same c n (Both c n) (both_same c n)) (if_kept c n (Both c n) (does_both c n)) ds s d k h inv.0.0 x,
         stands,
         λ prem. (let old = prem_drop h.deeds ds prem in solve_known c n codec net ds s d k h (inv.0.0 old.2).0.elements (inv.0.2 old) x),
       ) in (
@@ -205,7 +205,7 @@ module _ (c : Codec) (n : NetworkParts) (codec : IsCodec c) (net : IsNetwork n) 
   upper_inv : (ds : Transcript) (s : Plant) (k : ℕ) (h : Happened) → Inv ds s → ParentSolves c n k s h → Inv (h.deeds ++ ds) h.state
   upper_inv ds s k h inv x =
       let base : Base (h.deeds ++ ds) h.state = (
-        upper_both c n ds s k h inv.0.0 x,
+        upper_keeps c n (If c n (Both c n)) (if_same c n (Both c n) (both_same c n)) (if_kept c n (Both c n) (does_both c n)) ds s k h inv.0.0 x,
         stands,
         λ prem. (let old = prem_drop h.deeds ds prem in upper_known c n codec net ds s k h (inv.0.0 old.2).0.parent (inv.0.2 old) x),
       ) in (
@@ -250,7 +250,7 @@ module _ (c : Codec) (n : NetworkParts) (codec : IsCodec c) (net : IsNetwork n) 
   bare_inv : Inv [] bare
   bare_inv = (
     (
-      (λ z. (bare_holds c n z, ((λ d h none. absurd none), (λ d h g none. absurd none)))),
+      (bare_both c n),
       (λ a b. refl),
       λ prem. record {
         low = λ a b. 0;

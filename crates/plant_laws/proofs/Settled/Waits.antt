@@ -1,9 +1,8 @@
 -- In every state of a run, a row that waits was sent on in the moment that opened it, under the id for which it waits.
-use Rattle.std.proofs.Common.{◌≡◌, ◌⊎◌, ◌<◌, ℕ, length, Bool, true, false, cond, Option, Some, None, List, [], ◌∷◌, ◌++◌, inl, inr, sym, ◌∙◌, ap, subst, refl, arith}
+use Rattle.std.proofs.Common.{◌≡◌, ◌⊎◌, ◌<◌, length, Bool, true, false, cond, Option, Some, None, List, [], ◌∷◌, inl, inr, sym, ◌∙◌, ap, subst, refl, arith}
 use Rattle.std.proofs.lemmas.Bool.{cases_Bool}
 use Rattle.std.proofs.lemmas.Grind.{common_steps}
-use Rattle.plant_model.specs.Types.{As, Peer, Outside, Inner, Message, RequestKey, NetworkParts}
-use Rattle.te_links.specs.Rows.{Rows}
+use Rattle.plant_model.specs.Types.{As, RequestKey, NetworkParts}
 use Rattle.disclosure.specs.Shown.{open_of}
 use Rattle.request_table.specs.Pending.{Pending, key_of, same_key, number_among}
 use Rattle.request_table.proofs.KeyLemmas.{same_key_self}
@@ -18,13 +17,11 @@ use Rattle.plant_model.specs.Solving.{commit, job_found}
 use Rattle.plant_model.specs.Parent as parent
 use Rattle.plant_text.specs.Settings.{class_of}
 use Rattle.plant_model.specs.Settings.{place, family}
-use Rattle.plant_model.specs.State.{State, Loads, Pops, Takes, Says, Ups, Downs, Clears, Solves, Expires, Hands}
-use Rattle.plant_model.specs.Deeds.{Going, element_of, own_message, with_parent, with_element, puts, give, rise, fall}
-use Rattle.plant_model.specs.Plant.{Pin, Segment, Plant, PlantDeed, Happened, Entry, Run, deeds_of, load_new, ElementSolves, ParentSolves}
+use Rattle.plant_model.specs.State.{State}
+use Rattle.plant_model.specs.Deeds.{own_message, with_parent, with_element}
+use Rattle.plant_model.specs.Plant.{Pin, Segment, Plant, PlantDeed, Entry, Run, deeds_of, first_pin}
 use Rattle.plant_laws.specs.Transcript.{Transcript, Effect, Keeps, Ends, Begins, effect, after, opened, outputs_at, SentIn}
-use Rattle.plant_laws.proofs.Runs.Acts.{popped, Acts, rests, hears, carries, nods, hands, rises, falls, says, clears, expires}
 use Rattle.plant_laws.proofs.Runs.Queues.{same_as_is}
-use Rattle.plant_laws.proofs.Runs.Induction.{run_holds}
 use Rattle.plant_laws.proofs.Runs.Seen.{seen_none}
 use Rattle.plant_laws.proofs.Runs.Rows.{In, in_of, seen_in}
 use Rattle.plant_laws.proofs.WrittenForm.RequestsWritten.{requests_are_single}
@@ -32,9 +29,10 @@ use Rattle.plant_laws.specs.Runs.{InRuns}
 use Rattle.plant_laws.specs.Waiting.{WaitsAreSentIn, WaitsApartIn, wait_alike}
 use Rattle.plant_laws.proofs.Runs.Inboxes.{contains}
 use Rattle.plant_laws.proofs.Once.ElementSteps as lower
-use Rattle.plant_laws.proofs.Once.Takes.{IsSingle}
-use Rattle.plant_laws.proofs.Once.Opened.{Matches, AreSingle, IsRequest, Holds, holds_same, puts_elements, set_pending}
-use Rattle.plant_laws.proofs.Once.OpenedRuns.{act_holds, load_holds, solve_holds, upper_holds, give_single, fall_single, rise_single, quiet, bare_holds}
+use Rattle.plant_laws.proofs.Once.Opened.{Matches, AreSingle, IsRequest, Holds, holds_same, puts_elements, set_pending, single_deed}
+use Rattle.plant_laws.proofs.Once.OpenedRuns.{does_hold, bare_holds}
+use Rattle.plant_laws.proofs.Once.DeedByDeed.{Does, takes_above, takes_below, downs_above, downs_below, ups_above, ups_below, solves_above, solves_below, pops, hands_out, says_own, clears_link, expires_at, loads_rows, run_singles}
+use Rattle.plant_model.specs.Events as events
 use Rattle.plant_laws.proofs.Once.OpenTables.{row_matched}
 use Rattle.plant_laws.proofs.Least.Subsides.{IsOlder, commit_subs, downed_subs}
 use Rattle.plant_laws.proofs.Numbering.SentOn.{IsRest, IsSentIn, take_news, same_id_back}
@@ -193,64 +191,8 @@ module _ (c : Codec) (n : NetworkParts) where
   abbrev pub Both : Transcript → Core → Type 0
   Both ds s = Holds c n ds s × AreSentOn ds s
 
-  split : (ds : Transcript) (x : Bool) (g h : Going Pin Segment) → (x ≡ true → Holds c n (g.deeds ++ ds) g.state → AreSentOn (g.deeds ++ ds) g.state) → (x ≡ false → Holds c n (h.deeds ++ ds) h.state → AreSentOn (h.deeds ++ ds) h.state) →
-      Holds c n ((cond x g h).deeds ++ ds) (cond x g h).state → AreSentOn ((cond x g h).deeds ++ ds) (cond x g h).state
-  split ds true g h up low = up refl
-  split ds false g h up low = low refl
-
   pub outputs_own : (at : As) (os : List Output) → cond (same_as at at) os [] ≡ os
   outputs_own at os = let own : same_as at at ≡ true = grind (arith, common_steps) in rw own refl
-
-  give_sent : (at : As) (p : Peer) (m : Message) (s : Core) (es ds : Transcript) → IsSingle m → Both (es ++ ds) s →
-      (let g = give Pin Segment c n open_of at p m (record { state = s; deeds = es }) in Holds c n (g.deeds ++ ds) g.state → AreSentOn (g.deeds ++ ds) g.state)
-  give_sent at p m s es ds one both =
-      let r = parent.take c (family n) p m s.parent in
-      let t = take c open_of (place n at) (s.current at) p (class_of n p) s.clock m (s.elements at) in
-      let u = puts Pin Segment c n open_of at r.outputs (with_parent Pin Segment c n open_of r.parent s) in
-      let v = puts Pin Segment c n open_of at t.outputs (with_element Pin Segment c n open_of at t.element s) in
-      split ds (same_as at parent_as)
-      (record { state = u; deeds = Takes at p m r.outputs ∷ es })
-      (record { state = v; deeds = Takes at p m t.outputs ∷ es })
-      (λ up next. sent_after (Takes at p m r.outputs) (es ++ ds) s u both.0 both.1 next
-      (stay (Takes at p m r.outputs) s u (λ d. ap (λ (f : As → Element Pin Segment). (f d).pending) (puts_elements c n at r.outputs (with_parent Pin Segment c n open_of r.parent s)))))
-      (λ low next. sent_after (Takes at p m t.outputs) (es ++ ds) s v both.0 both.1 next
-      (come (Takes at p m t.outputs) at t.element s v (puts_elements c n at t.outputs (with_element Pin Segment c n open_of at t.element s))
-      (let news = take_news Pin Segment c open_of (place n at) (s.current at) p (class_of n p) s.clock (s.elements at) (few_rows (es ++ ds) s both.0 at) m one in (
-        news.0,
-        (λ h i. elim (news.1 h i) [
-          | inl old ↦ inl old
-          | inr new ↦ inr (new.0, (new.1.0, subst (λ (os : List Output). IsSentIn (place n at).routes os h.1.item h.1.item.stage) (sym (outputs_own at t.outputs)) new.1.1, new.1.2))
-        ]),
-      ))))
-
-  fall_sent : (at : As) (p : Peer) (s : Core) (ds : Transcript) → Both ds s →
-      (let g = fall Pin Segment c n open_of at p (record { state = s; deeds = [] }) in Holds c n (g.deeds ++ ds) g.state → AreSentOn (g.deeds ++ ds) g.state)
-  fall_sent at p s ds both =
-      let r = parent.downed p s.parent in
-      let t = downed p (s.elements at) in
-      let u = puts Pin Segment c n open_of at r.outputs (with_parent Pin Segment c n open_of r.parent s) in
-      let v = puts Pin Segment c n open_of at t.outputs (with_element Pin Segment c n open_of at t.element s) in
-      split ds (same_as at parent_as)
-      (record { state = u; deeds = Downs at p r.outputs ∷ [] })
-      (record { state = v; deeds = Downs at p t.outputs ∷ [] })
-      (λ up next. sent_after (Downs at p r.outputs) ds s u both.0 both.1 next
-      (stay (Downs at p r.outputs) s u (λ d. ap (λ (f : As → Element Pin Segment). (f d).pending) (puts_elements c n at r.outputs (with_parent Pin Segment c n open_of r.parent s)))))
-      (λ low next. sent_after (Downs at p t.outputs) ds s v both.0 both.1 next
-      (come (Downs at p t.outputs) at t.element s v (puts_elements c n at t.outputs (with_element Pin Segment c n open_of at t.element s)) (key_of p 0, (λ h i. inl (downed_subs Pin Segment p (s.elements at) h i)))))
-
-  rise_sent : (at : As) (p : Peer) (s : Core) (ds : Transcript) → Both ds s →
-      (let g = rise Pin Segment c n open_of at p (record { state = s; deeds = [] }) in Holds c n (g.deeds ++ ds) g.state → AreSentOn (g.deeds ++ ds) g.state)
-  rise_sent at p s ds both =
-      let u = with_parent Pin Segment c n open_of (parent.upped p s.parent) s in
-      let v = with_element Pin Segment c n open_of at (upped p (s.elements at)) s in
-      split ds (same_as at parent_as)
-      (record { state = u; deeds = Ups at p ∷ [] })
-      (record { state = v; deeds = Ups at p ∷ [] })
-      (λ up next. sent_after (Ups at p) ds s u both.0 both.1 next (stay (Ups at p) s u (λ d. refl)))
-      (λ low next. sent_after (Ups at p) ds s v both.0 both.1 next (come (Ups at p) at (upped p (s.elements at)) s v refl (key_of p 0, (λ h i. inl (h, i, refl, inl refl)))))
-
-  abbrev pub IfBoth : Transcript → Core → Type 0
-  IfBoth ds s = AreSingle ds → Both ds s
 
   sent_same : (ds : Transcript) (s t : Core) → t.elements ≡ s.elements → AreSentOn ds s → AreSentOn ds t
   sent_same ds s t same sent = (
@@ -258,76 +200,55 @@ module _ (c : Codec) (n : NetworkParts) where
     subst (λ (f : As → Element Pin Segment). (d : As) (h g : Row Pin) → In h (f d).pending.rows → In g (f d).pending.rows → same_key h.1.key g.1.key ≡ false → wait_alike h.1.item.stage g.1.item.stage ≡ false) (sym same) sent.1,
   )
 
-  act_sent : (ds : Transcript) (s t : Core) (es : Transcript) → IfBoth ds s → Acts Pin Segment c n open_of s es t → AreSingle (es ++ ds) → Holds c n (es ++ ds) t → AreSentOn (es ++ ds) t
-  act_sent ds s t es held (rests s' t' same) = λ single next. sent_same ds s t same.elements (held single).1
-  act_sent ds s t es held (hears i bytes m s' read) = λ single next.
-      let x = give_single c n (element_of n i) (Outside i) m s [] ds single in
-      give_sent (element_of n i) (Outside i) m s [] ds x.0 (held x.1) next
-  act_sent ds s t es held (carries a b bytes rest m s' u is read same) = λ single next.
-      let x = give_single c n b (Inner a) m u (Pops a b ∷ []) ds single in
-      let old = held x.1.1 in
-      let p = popped Pin Segment c n open_of a b rest s in
-      let good = quiet c n (Pops a b) ds s p (λ d q x. refl) (λ d. refl) refl refl (λ d. refl) (λ d. refl) old.0 in
-      let good' = holds_same c n (Pops a b ∷ ds) p u same.elements same.parent same.current good in
-      let sent' = sent_same (Pops a b ∷ ds) p u same.elements (sent_after (Pops a b) ds s p old.0 old.1 good (stay (Pops a b) s p (λ d. refl))) in
-      give_sent b (Inner a) m u (Pops a b ∷ []) ds x.0 (good', sent') next
-  act_sent ds s t es held (nods a b bytes rest s' is) = λ single next. let old = held single.1 in sent_after (Pops a b) ds s t old.0 old.1 next (stay (Pops a b) s t (λ d. refl))
-  act_sent ds s t es held (hands i bytes s' t' same) = λ single next.
-      let old = held single.1 in
-      sent_after (Hands i bytes) ds s t old.0 old.1 next (stay (Hands i bytes) s t (λ d. ap (λ (f : As → Element Pin Segment). (f d).pending) same.elements))
-  act_sent ds s t es held (rises at p s') = λ single next. rise_sent at p s ds (held (rise_single c n at p s ds single)) next
-  act_sent ds s t es held (falls at p s') = λ single next. fall_sent at p s ds (held (fall_single c n at p s ds single)) next
-  act_sent ds s t es held (says at p o s') = λ single next.
-      let old = held single.1 in
-      let out : Output = record { to = p; message = own_message o } in
-      sent_after (Says at out) ds s t old.0 old.1 next (stay (Says at out) s t (λ d. ap (λ (f : As → Element Pin Segment). (f d).pending) (puts_elements c n at (out ∷ []) s)))
-  act_sent ds s t es held (clears x s') = λ single next. let old = held single.1 in sent_after (Clears x.lower x.upper) ds s t old.0 old.1 next (stay (Clears x.lower x.upper) s t (λ d. refl))
-  act_sent ds s t es held (expires now s') = λ single next. let old = held single.1 in sent_after (Expires now) ds s t old.0 old.1 next (stay (Expires now) s t (λ d. refl))
+  -- elements' rows are as before
+  as_before : (e : PlantDeed) (s t : Core) → t.elements ≡ s.elements → (d : As) → Rows_come e s t d
+  as_before e s t same = stay e s t (λ d. ap (λ (f : As → Element Pin Segment). (f d).pending) same)
 
-  pub act_both : (ds : Transcript) (s t : Core) (es : Transcript) → IfBoth ds s → Acts Pin Segment c n open_of s es t → IfBoth (es ++ ds) t
-  act_both ds s t es held act single =
-      let next = act_holds c n ds s t es (λ z. (held z).0) act single in
-      (next, act_sent ds s t es held act single next)
+  comes_of : (s t : Core) (ds : Transcript) (e : PlantDeed) → Does c n s e t → single_deed e → Holds c n ds s → (d : As) → Rows_come e s t d
+  comes_of s t ds e (takes_above at p m s' up) one held = as_before e s t (let r = parent.take c (family n) p m s.parent in puts_elements c n at r.outputs (with_parent Pin Segment c n open_of r.parent s))
+  comes_of s t ds e (takes_below at p m s' low heard) one held =
+      let r = take c open_of (place n at) (s.current at) p (class_of n p) s.clock m (s.elements at) in
+      let news = take_news Pin Segment c open_of (place n at) (s.current at) p (class_of n p) s.clock (s.elements at) (few_rows ds s held at) m one in
+      come e at r.element s t (puts_elements c n at r.outputs (with_element Pin Segment c n open_of at r.element s)) (
+        news.0,
+        (λ h i. elim (news.1 h i) [
+          | inl old ↦ inl old
+          | inr new ↦ inr (new.0, (new.1.0, subst (λ (os : List Output). IsSentIn (place n at).routes os h.1.item h.1.item.stage) (sym (outputs_own at r.outputs)) new.1.1, new.1.2))
+        ]),
+      )
+  comes_of s t ds e (downs_above at p s' up) one held = as_before e s t (let r = parent.downed p s.parent in puts_elements c n at r.outputs (with_parent Pin Segment c n open_of r.parent s))
+  comes_of s t ds e (downs_below at p s' low) one held =
+      let r = downed p (s.elements at) in
+      come e at r.element s t (puts_elements c n at r.outputs (with_element Pin Segment c n open_of at r.element s)) (key_of p 0, (λ h i. inl (downed_subs Pin Segment p (s.elements at) h i)))
+  comes_of s t ds e (ups_above at p s' up) one held = as_before e s t refl
+  comes_of s t ds e (ups_below at p s' low) one held = come e at (upped p (s.elements at)) s t refl (key_of p 0, (λ h i. inl (h, i, refl, inl refl)))
+  comes_of s t ds e (solves_above k h s' x) one held =
+      let r = parent.commit c (k, x.held) x.answer s.parent in
+      as_before e s t (puts_elements c n parent_as r.outputs (with_parent Pin Segment c n open_of r.parent s))
+  comes_of s t ds e (solves_below d k h s' x) one held =
+      let r = commit c (place n d) (k, x.held) x.down s.clock (λ b. b.segment) (job_found x.rows.source_known x.rows.target_known x.rows.best) (s.elements d) in
+      come e d r.element s t (puts_elements c n d r.outputs (with_element Pin Segment c n open_of d r.element s))
+      (x.held.key, (λ g i. inl (commit_subs Pin Segment c (place n d) (k, x.held) x.down s.clock (λ b. b.segment) x.rows.source_known x.rows.target_known x.rows.best (s.elements d) g i)))
+  comes_of s t ds e (pops a b rest s') one held = stay e s t (λ d. refl)
+  comes_of s t ds e (hands_out i bytes s') one held = stay e s t (λ d. refl)
+  comes_of s t ds e (says_own at p o s') one held = as_before e s t (puts_elements c n at (record { to = p; message = own_message o } ∷ []) s)
+  comes_of s t ds e (clears_link x s') one held = stay e s t (λ d. refl)
+  comes_of s t ds e (expires_at now s') one held = stay e s t (λ d. refl)
+  comes_of s t ds e (loads_rows d g s') one held = stay e s t (λ d'. refl)
 
-  pub load_both : (ds : Transcript) (s : Plant) (d : As) (g : Rows) → IfBoth ds s → IfBoth (Loads d g ∷ ds) (load_new c n d g s).state
-  load_both ds s d g held single =
-      let old = held single.1 in
-      let next = load_holds c n ds s d g (λ z. (held z).0) single in
-      (next, sent_after (Loads d g) ds s (load_new c n d g s).state old.0 old.1 next (stay (Loads d g) s (load_new c n d g s).state (λ d. refl)))
+  pub both_same : (ds : Transcript) (s t : Core) → t.elements ≡ s.elements → t.parent ≡ s.parent → t.current ≡ s.current → Both ds s → Both ds t
+  both_same ds s t elements above current both = (holds_same c n ds s t elements above current both.0, sent_same ds s t elements both.1)
 
-  pub solve_both : (ds : Transcript) (s : Plant) (d : As) (k : ℕ) (h : Happened) → IfBoth ds s → ElementSolves c n d k s h → IfBoth (h.deeds ++ ds) h.state
-  solve_both ds s d k h held x single = (solve_holds c n ds s d k h (λ z. (held z).0) x single, sent single)
-    where
-      sent : AreSingle (h.deeds ++ ds) → AreSentOn (h.deeds ++ ds) h.state
-      sent =
-          let r = commit c (place n d) (k, x.held) x.down s.clock (λ b. b.segment) (job_found x.rows.source_known x.rows.target_known x.rows.best) (s.elements d) in
-          let v = puts Pin Segment c n open_of d r.outputs (with_element Pin Segment c n open_of d r.element s) in
-          let e : PlantDeed = Solves d k r.outputs r.element.keys.issued in
-          let next : AreSingle (e ∷ ds) → Holds c n (e ∷ ds) v = subst (λ (h' : Happened). AreSingle (h'.deeds ++ ds) → Holds c n (h'.deeds ++ ds) h'.state) x.is (solve_holds c n ds s d k h (λ z. (held z).0) x) in
-          subst (λ (h' : Happened). AreSingle (h'.deeds ++ ds) → AreSentOn (h'.deeds ++ ds) h'.state) (sym x.is)
-          (λ single.
-          let old = held single.1 in
-          sent_after e ds s v old.0 old.1 (next single)
-          (come e d r.element s v (puts_elements c n d r.outputs (with_element Pin Segment c n open_of d r.element s))
-          (x.held.key, (λ h i. inl (commit_subs Pin Segment c (place n d) (k, x.held) x.down s.clock (λ b. b.segment) x.rows.source_known x.rows.target_known x.rows.best (s.elements d) h i)))))
+  pub does_both : (ds : Transcript) (s t : Core) (e : PlantDeed) → Does c n s e t → single_deed e → Both ds s → Both (e ∷ ds) t
+  does_both ds s t e does one both =
+      let next = does_hold c n ds s t e does one both.0 in
+      (next, sent_after e ds s t both.0 both.1 next (comes_of s t ds e does one both.0))
 
-  pub upper_both : (ds : Transcript) (s : Plant) (k : ℕ) (h : Happened) → IfBoth ds s → ParentSolves c n k s h → IfBoth (h.deeds ++ ds) h.state
-  upper_both ds s k h held x single = (upper_holds c n ds s k h (λ z. (held z).0) x single, sent single)
-    where
-      sent : AreSingle (h.deeds ++ ds) → AreSentOn (h.deeds ++ ds) h.state
-      sent =
-          let r = parent.commit c (k, x.held) x.answer s.parent in
-          let v = puts Pin Segment c n open_of parent_as r.outputs (with_parent Pin Segment c n open_of r.parent s) in
-          let e : PlantDeed = Solves parent_as k r.outputs [] in
-          let next : AreSingle (e ∷ ds) → Holds c n (e ∷ ds) v = subst (λ (h' : Happened). AreSingle (h'.deeds ++ ds) → Holds c n (h'.deeds ++ ds) h'.state) x.is (upper_holds c n ds s k h (λ z. (held z).0) x) in
-          subst (λ (h' : Happened). AreSingle (h'.deeds ++ ds) → AreSentOn (h'.deeds ++ ds) h'.state) (sym x.is)
-          (λ single.
-          let old = held single.1 in
-          sent_after e ds s v old.0 old.1 (next single)
-          (stay e s v (λ d. ap (λ (f : As → Element Pin Segment). (f d).pending) (puts_elements c n parent_as r.outputs (with_parent Pin Segment c n open_of r.parent s)))))
+  pub bare_both : AreSingle [] → Both [] (events.bare Pin Segment c n open_of first_pin)
+  bare_both single = (bare_holds c n single, ((λ d h none. absurd none), (λ d h g none. absurd none)))
 
   pub run_sent_on : (es : List Entry) (s : Plant) → Run c n es s → AreSingle (deeds_of c n es) → AreSentOn (deeds_of c n es) s
-  run_sent_on es s run single = (run_holds c n IfBoth (λ z. (bare_holds c n z, ((λ d h none. absurd none), (λ d h g none. absurd none)))) act_both (λ ds s d g given held. load_both ds s d g held) solve_both upper_both es s run single).1
+  run_sent_on es s run single = (run_singles c n Both both_same does_both bare_both es s run single).1
 
 pub waits_are_sent : InRuns WaitsAreSentIn
 waits_are_sent c codec n net es s run d h i b y is =

@@ -46,6 +46,7 @@ use Rattle.plant_laws.proofs.WrittenForm.Sent.{run_sent}
 use Rattle.plant_laws.proofs.Once.Opened.{puts_elements, puts_parent}
 use Rattle.plant_laws.proofs.Runs.Reading as Reading
 use Rattle.plant_laws.proofs.Runs.Topologies as Topologies
+use Rattle.plant_laws.proofs.Runs.ElementsKept as kept
 use Rattle.plant_laws.proofs.WrittenForm.BestFits.{SegFits, seg_written, rows_fit, segments_fit}
 use Rattle.plant_laws.proofs.WrittenForm.ElementSays.{IsKnown, ReplyKnown, Known, WaysOk, Holds, take_fine, downed_fine, upped_fine, ticked_fine, commit_keeps}
 use Rattle.plant_laws.proofs.WrittenForm.ParentSays.{IsKnownAbove, KnownAbove, is_family, IsDown, OutsUp, ups_written, ParentHolds, given_take_fine, given_downed_fine, given_upped_fine, given_commit_keeps}
@@ -251,7 +252,7 @@ module _ (c : Codec) (codec : IsCodec c) (n : NetworkParts) (net : IsNetwork n) 
 
   pub record I (ds : Transcript) (s : Core) : Type 0 where
     pub stand : Stand c n ds s
-    pub good : Topologies.Good ds s
+    pub good : kept.Good c n Topologies.IsPinned Topologies.Pinned s
     pub fit : IfFit ds s
 
   fit_same : (s t : Core) → t.elements ≡ s.elements → t.parent ≡ s.parent → AllFit s → AllFit t
@@ -363,12 +364,12 @@ module _ (c : Codec) (codec : IsCodec c) (n : NetworkParts) (net : IsNetwork n) 
       (((tt, tt), x.0), record { elements = λ d. ticked_fine Pin Segment open_of SegFits seg_written now (s.elements d) (x.1.elements d); parent = x.1.parent })
 
   act_holds : (ds : Transcript) (s t : Core) (es : Transcript) → I ds s → Acts Pin Segment c n open_of s es t → I (es ++ ds) t
-  act_holds ds s t es held act = record { stand = act_stands c n ds s t es held.stand act; good = Topologies.act_good c n ds s t es held.good act; fit = act_fit ds s t es held act }
+  act_holds ds s t es held act = record { stand = act_stands c n ds s t es held.stand act; good = (kept.act_keeps c n Topologies.IsPinned Topologies.Pinned (Topologies.kept c n) s t es act).good held.good; fit = act_fit ds s t es held act }
 
   load_holds : (ds : Transcript) (s : Plant) (d : As) (g : Topology) → IsGiven (event.Load d g) → I ds s → I (Loads d g ∷ ds) (load_new c n d g s).state
   load_holds ds s d g given held = record {
     stand = left_stands c n s s ds (Loads d g) (λ a. refl) (λ a b. held.stand a b);
-    good = Topologies.load_good c n ds s d g given held.good;
+    good = record { current = Topologies.loaded_pinned c n s d g given held.good.current; elements = held.good.elements };
     fit = λ prem. let x = held.fit (older (Loads d g) ds prem) in (((tt, tt), x.0), record { elements = x.1.elements; parent = x.1.parent });
   }
 
@@ -376,7 +377,7 @@ module _ (c : Codec) (codec : IsCodec c) (n : NetworkParts) (net : IsNetwork n) 
   solve_fit ds s d k h held x =
       let r = commit c (place n d) (k, x.held) x.down s.clock (λ b. b.segment) (job_found x.rows.source_known x.rows.target_known x.rows.best) (s.elements d) in
       let u = with_element Pin Segment c n open_of d r.element s in
-      let domain = Topologies.domain_under d k (s.elements d).pending.rows x.held (held.good.pinned d) x.is_held in
+      let domain = Topologies.domain_under d k (s.elements d).pending.rows x.held (held.good.elements d) x.is_held in
       let best = rows_fit d x.held.item.pin.topology domain (ask c n d (k, x.held) x.down) x.rows x.right in
       let segments = segments_fit d x.held.item.pin.topology domain (ask c n d (k, x.held) x.down) x.rows.best best.0 in
       subst (λ (h' : Happened). IfFit (h'.deeds ++ ds) h'.state) (sym x.is) (λ prem.
@@ -393,15 +394,15 @@ module _ (c : Codec) (codec : IsCodec c) (n : NetworkParts) (net : IsNetwork n) 
       (((prem.3.0, commit_down c (k, x.held) x.answer s.parent), b.0), fit_puts parent_as r.outputs u (fit_parent r.parent s (given_commit_keeps c (k, x.held) x.answer s.parent b.1.parent) b.1)))
 
   solve_holds : (ds : Transcript) (s : Plant) (d : As) (k : ℕ) (h : Happened) → I ds s → ElementSolves c n d k s h → I (h.deeds ++ ds) h.state
-  solve_holds ds s d k h held x = record { stand = solve_stands c n ds s d k h held.stand x; good = Topologies.solve_good c n ds s d k h held.good x; fit = solve_fit ds s d k h held x }
+  solve_holds ds s d k h held x = record { stand = solve_stands c n ds s d k h held.stand x; good = (kept.solve_keeps c n Topologies.IsPinned Topologies.Pinned (Topologies.kept c n) s d k h x).good held.good; fit = solve_fit ds s d k h held x }
 
   upper_holds : (ds : Transcript) (s : Plant) (k : ℕ) (h : Happened) → I ds s → ParentSolves c n k s h → I (h.deeds ++ ds) h.state
-  upper_holds ds s k h held x = record { stand = upper_stands c n ds s k h held.stand x; good = Topologies.upper_good c n ds s k h held.good x; fit = upper_fit ds s k h held x }
+  upper_holds ds s k h held x = record { stand = upper_stands c n ds s k h held.stand x; good = (kept.upper_keeps c n Topologies.IsPinned Topologies.Pinned (Topologies.kept c n) s k h x).good held.good; fit = upper_fit ds s k h held x }
 
   bare_holds : I [] (events.bare Pin Segment c n open_of first_pin)
   bare_holds = record {
     stand = λ a b. refl;
-    good = record { current = λ d. Topologies.empty_domain d; pinned = λ d. tt };
+    good = record { current = λ d. Topologies.empty_domain d; elements = λ d. tt };
     fit = λ prem. (tt, record { elements = λ d. (tt, ways_fit_all (inner_ways n d) (routes n d) (ways_fit d (adjacencies n)), tt); parent = (tt, ways_fit parent_as (adjacencies n)) });
   }
 

@@ -45,8 +45,9 @@ use Rattle.plant_laws.proofs.Runs.Inboxes.{AreOutsideSingle, run_outside}
 use Rattle.plant_laws.proofs.Runs.Induction.{run_holds}
 use Rattle.plant_laws.proofs.Numbering.Onward as lower
 use Rattle.plant_laws.proofs.Numbering.OnwardUpper as upper
-use Rattle.plant_laws.proofs.Once.Opened.{AreSingle, puts_elements, puts_parent}
+use Rattle.plant_laws.proofs.Once.Opened.{AreSingle, puts_elements, puts_parent, holds_same}
 use Rattle.plant_laws.proofs.Once.OpenedRuns as opened
+use Rattle.plant_laws.proofs.Once.DeedByDeed as deeds
 use Rattle.plant_laws.proofs.WrittenForm.ParentSays.{AreAsked, IsFamily, is_family, all_asks, to_children, ups_written}
 use Rattle.plant_laws.proofs.Runs.Queues.{Stand, act_stands, left_stands, solve_stands, upper_stands}
 use Rattle.plant_laws.proofs.WrittenForm.ReadBack.{StoodFirst, standing_sent}
@@ -323,7 +324,7 @@ module _ (c : Codec) (codec : IsCodec c) (n : NetworkParts) (net : IsNetwork n) 
 
   record I (ds : Transcript) (s : Core) : Type 0 where
     pub stand : Stand c n ds s
-    pub tables : opened.If c n ds s
+    pub tables : deeds.If c n (opened.Good c n) ds s
     pub fit : IfFit ds s
 
   fit_same : (s t : Core) → t.elements ≡ s.elements → t.parent ≡ s.parent → WaysFit s → WaysFit t
@@ -436,12 +437,12 @@ module _ (c : Codec) (codec : IsCodec c) (n : NetworkParts) (net : IsNetwork n) 
   act_fit ds s t es held (expires now s') = λ prem. let x = held.fit (older (Expires now) ds prem) in (((tt, x.0.0), (tt, x.0.1), (tt, x.0.2)), record { elements = x.1.elements; parent = x.1.parent })
 
   act_holds : (ds : Transcript) (s t : Core) (es : Transcript) → I ds s → Acts Pin Segment c n open_of s es t → I (es ++ ds) t
-  act_holds ds s t es held act = record { stand = act_stands c n ds s t es held.stand act; tables = opened.act_holds c n ds s t es held.tables act; fit = act_fit ds s t es held act }
+  act_holds ds s t es held act = record { stand = act_stands c n ds s t es held.stand act; tables = deeds.act_keeps c n (deeds.If c n (opened.Good c n)) (deeds.if_same c n (opened.Good c n) (holds_same c n)) (deeds.if_kept c n (opened.Good c n) (opened.does_hold c n)) ds s t es held.tables act; fit = act_fit ds s t es held act }
 
   load_holds : (ds : Transcript) (s : Plant) (d : As) (g : Topology) → I ds s → I (Loads d g ∷ ds) (load_new c n d g s).state
   load_holds ds s d g held = record {
     stand = left_stands c n s s ds (Loads d g) (λ a. refl) (λ a b. held.stand a b);
-    tables = opened.load_holds c n ds s d g held.tables;
+    tables = deeds.load_keeps c n (deeds.If c n (opened.Good c n)) (deeds.if_same c n (opened.Good c n) (holds_same c n)) (deeds.if_kept c n (opened.Good c n) (opened.does_hold c n)) ds s d g held.tables;
     fit = λ prem. let x = held.fit (older (Loads d g) ds prem) in (((tt, x.0.0), (tt, x.0.1), (tt, x.0.2)), record { elements = x.1.elements; parent = x.1.parent });
   }
 
@@ -463,10 +464,10 @@ module _ (c : Codec) (codec : IsCodec c) (n : NetworkParts) (net : IsNetwork n) 
       (((y.0, b.0.0), (tt, b.0.1), (tt, b.0.2)), fit_puts parent_as r.outputs (with_parent Pin Segment c n open_of r.parent s) (fit_parent r.parent s y.1 b.1)))
 
   solve_holds : (ds : Transcript) (s : Plant) (d : As) (k : ℕ) (h : Happened) → I ds s → ElementSolves c n d k s h → I (h.deeds ++ ds) h.state
-  solve_holds ds s d k h held x = record { stand = solve_stands c n ds s d k h held.stand x; tables = opened.solve_holds c n ds s d k h held.tables x; fit = solve_fit ds s d k h held x }
+  solve_holds ds s d k h held x = record { stand = solve_stands c n ds s d k h held.stand x; tables = deeds.solve_keeps c n (deeds.If c n (opened.Good c n)) (deeds.if_same c n (opened.Good c n) (holds_same c n)) (deeds.if_kept c n (opened.Good c n) (opened.does_hold c n)) ds s d k h held.tables x; fit = solve_fit ds s d k h held x }
 
   upper_holds : (ds : Transcript) (s : Plant) (k : ℕ) (h : Happened) → I ds s → ParentSolves c n k s h → I (h.deeds ++ ds) h.state
-  upper_holds ds s k h held x = record { stand = upper_stands c n ds s k h held.stand x; tables = opened.upper_holds c n ds s k h held.tables x; fit = upper_fit ds s k h held x }
+  upper_holds ds s k h held x = record { stand = upper_stands c n ds s k h held.stand x; tables = deeds.upper_keeps c n (deeds.If c n (opened.Good c n)) (deeds.if_same c n (opened.Good c n) (holds_same c n)) (deeds.if_kept c n (opened.Good c n) (opened.does_hold c n)) ds s k h held.tables x; fit = upper_fit ds s k h held x }
 
   bare_holds : I [] (events.bare Pin Segment c n open_of first_pin)
   bare_holds = record {

@@ -1,6 +1,6 @@
 -- What is true of every kind of message that is written is true of all that a run sends.
-use Rattle.std.proofs.Common.{◌≡◌, ℕ, Bool, true, false, cond, ◌==◌, nat_lt, Option, Some, None, List, [], ◌∷◌, ◌++◌, length, map, sym, subst, refl}
-use Rattle.plant_model.specs.Types.{As, Addr, Peer, Outside, Inner, Hop, Message, Request, Reply, Answer, Wanted, Wish, Own, Class, Best, Branch, NetworkParts}
+use Rattle.std.proofs.Common.{◌≡◌, ℕ, Bool, true, false, cond, ◌==◌, nat_lt, Option, Some, None, List, [], ◌∷◌, ◌++◌, length, map, subst, refl}
+use Rattle.plant_model.specs.Types.{As, Addr, Peer, Inner, Hop, Message, Request, Reply, Answer, Wanted, Wish, Own, Class, Best, Branch, NetworkParts}
 use Rattle.pcep_messages.specs.declared.message.Message.TheVariants as messages
 use Rattle.pcep_messages.specs.declared.message.Answer.TheVariants.{Paths, NoPath}
 use Rattle.pcep_messages.specs.declared.message.Wish.TheVariants.{Path, Expand}
@@ -8,12 +8,12 @@ use Rattle.disclosure.specs.Shown.{open_of}
 use Rattle.request_table.specs.Pending.{number_of, same_peer, is_full}
 use Rattle.plant_model.specs.declared.output.Output.{Output}
 use Rattle.plant_model.specs.declared.output.Lost.{Lost}
-use Rattle.plant_text.specs.Names.{same_as, parent_as}
+use Rattle.plant_text.specs.Names.{parent_as}
 use Rattle.plant_model.specs.Names.{the_parent, has_pair}
 use Rattle.plant_model.specs.Wire.{Codec, Checked, Admitted, Wrong}
 use Rattle.plant_model.specs.Writing.{request_message, reply_message, error_message, busy, unavailable, no_key}
 use Rattle.disclosure.specs.Policy.{is_denied}
-use Rattle.plant_model.specs.Element.{Row, Way, Element, ElementSettings, Taken, each, way_to, with_last, upped, waiting, is_client, lost_output, downed}
+use Rattle.plant_model.specs.Element.{Row, Way, Element, ElementSettings, Taken, each, way_to, with_last, waiting, is_client, lost_output, downed}
 use Rattle.plant_model.specs.Routes.{toward}
 use Rattle.plant_model.specs.Taking as taking
 use Rattle.plant_model.specs.Taking.{take, sequence_or, goes_up, error_answer}
@@ -23,13 +23,12 @@ use Rattle.plant_model.specs.Parent as parent
 use Rattle.plant_model.specs.Parent.{Parent, ParentTaken, Family, AskingRow, Wait, Errand}
 use Rattle.plant_text.specs.Settings.{class_of}
 use Rattle.plant_model.specs.Settings.{place, family}
-use Rattle.plant_model.specs.State.{State, Deed, Pops, Takes, Ups, Downs}
-use Rattle.plant_model.specs.Deeds.{Going, element_of, own_message, with_parent, with_element, puts, give, rise, fall}
-use Rattle.plant_model.specs.Plant.{Pin, Segment, Plant, Happened, Entry, Run, deeds_of, ElementSolves, ParentSolves}
-use Rattle.plant_laws.specs.Transcript.{Transcript}
+use Rattle.plant_model.specs.State.{State, Deed}
+use Rattle.plant_model.specs.Deeds.{own_message}
+use Rattle.plant_model.specs.Plant.{Pin, Segment, Plant, Entry, Run, deeds_of}
 use Rattle.plant_laws.specs.Sending.{AreAll, DeedSends, AllSent}
-use Rattle.plant_laws.proofs.Runs.Acts.{Acts, rests, hears, carries, nods, hands, rises, falls, says, clears, expires}
-use Rattle.plant_laws.proofs.Runs.Induction.{run_holds}
+use Rattle.plant_laws.proofs.Once.DeedByDeed.{Does, takes_above, takes_below, downs_above, downs_below, ups_above, ups_below, solves_above, solves_below, pops, hands_out, says_own, clears_link, expires_at, loads_rows}
+use Rattle.plant_laws.proofs.Once.DeedByDeed.{run_keeps}
 
 module _ (Q : Message → Type 0) where
   abbrev pub Outs : List Output → Type 0
@@ -275,60 +274,21 @@ module _ (Q : Message → Type 0) where
 
     -- all that a run sends
     module _ (c : Codec) (n : NetworkParts) where
-      abbrev Core : Type 0
-      Core = State Pin Segment
-
-      abbrev Sends : Transcript → Core → Type 0
-      Sends ds s = AreSent ds
-
-      sent_pick : (ds : Transcript) (b : Bool) (g h : Going Pin Segment) → AreSent (g.deeds ++ ds) → AreSent (h.deeds ++ ds) → AreSent ((cond b g h).deeds ++ ds)
-      sent_pick ds true g h x y = x
-      sent_pick ds false g h x y = y
-
-      give_sent : (at : As) (p : Peer) (m : Message) (s : Core) (es ds : Transcript) → AreSent (es ++ ds) → AreSent ((give Pin Segment c n open_of at p m (record { state = s; deeds = es })).deeds ++ ds)
-      give_sent at p m s es ds held =
-          let r = parent.take c (family n) p m s.parent in
-          let t = take c open_of (place n at) (s.current at) p (class_of n p) s.clock m (s.elements at) in
-          sent_pick ds (same_as at parent_as)
-          (record { state = puts Pin Segment c n open_of at r.outputs (with_parent Pin Segment c n open_of r.parent s); deeds = Takes at p m r.outputs ∷ es })
-          (record { state = puts Pin Segment c n open_of at t.outputs (with_element Pin Segment c n open_of at t.element s); deeds = Takes at p m t.outputs ∷ es })
-          (given_take c (family n) p m s.parent, held) (take_outs Pin Segment c open_of (place n at) (s.current at) p (class_of n p) s.clock m (s.elements at), held)
-
-      fall_sent : (at : As) (p : Peer) (s : Core) (ds : Transcript) → AreSent ds → AreSent ((fall Pin Segment c n open_of at p (record { state = s; deeds = [] })).deeds ++ ds)
-      fall_sent at p s ds held =
-          let r = parent.downed p s.parent in
-          let t = downed p (s.elements at) in
-          sent_pick ds (same_as at parent_as)
-          (record { state = puts Pin Segment c n open_of at r.outputs (with_parent Pin Segment c n open_of r.parent s); deeds = Downs at p r.outputs ∷ [] })
-          (record { state = puts Pin Segment c n open_of at t.outputs (with_element Pin Segment c n open_of at t.element s); deeds = Downs at p t.outputs ∷ [] })
-          (given_downed p s.parent, held) (downed_outs Pin Segment p (s.elements at), held)
-
-      rise_sent : (at : As) (p : Peer) (s : Core) (ds : Transcript) → AreSent ds → AreSent ((rise Pin Segment c n open_of at p (record { state = s; deeds = [] })).deeds ++ ds)
-      rise_sent at p s ds held =
-          sent_pick ds (same_as at parent_as)
-          (record { state = with_parent Pin Segment c n open_of (parent.upped p s.parent) s; deeds = Ups at p ∷ [] })
-          (record { state = with_element Pin Segment c n open_of at (upped p (s.elements at)) s; deeds = Ups at p ∷ [] })
-          (tt, held) (tt, held)
-
-      act_sent : (ds : Transcript) (s t : Core) (es : Transcript) → AreSent ds → Acts Pin Segment c n open_of s es t → AreSent (es ++ ds)
-      act_sent ds s t es held (rests s' t' same) = held
-      act_sent ds s t es held (hears i bytes m s' read) = give_sent (element_of n i) (Outside i) m s [] ds held
-      act_sent ds s t es held (carries a b bytes rest m s' u is read same) = give_sent b (Inner a) m u (Pops a b ∷ []) ds (tt, held)
-      act_sent ds s t es held (nods a b bytes rest s' is) = (tt, held)
-      act_sent ds s t es held (hands i bytes s' t' same) = (tt, held)
-      act_sent ds s t es held (rises at p s') = rise_sent at p s ds held
-      act_sent ds s t es held (falls at p s') = fall_sent at p s ds held
-      act_sent ds s t es held (says at p o s') = ((owns o, tt), held)
-      act_sent ds s t es held (clears x s') = (tt, held)
-      act_sent ds s t es held (expires now s') = (tt, held)
-
-      solve_sent : (ds : Transcript) (s : Plant) (d : As) (k : ℕ) (h : Happened) → AreSent ds → ElementSolves c n d k s h → AreSent (h.deeds ++ ds)
-      solve_sent ds s d k h held x =
-          subst (λ (h' : Happened). AreSent (h'.deeds ++ ds)) (sym x.is)
-          (commit_outs Pin Segment c (place n d) (k, x.held) x.down s.clock (λ b. b.segment) x.rows.source_known x.rows.target_known x.rows.best (s.elements d), held)
-
-      upper_sent : (ds : Transcript) (s : Plant) (k : ℕ) (h : Happened) → AreSent ds → ParentSolves c n k s h → AreSent (h.deeds ++ ds)
-      upper_sent ds s k h held x = subst (λ (h' : Happened). AreSent (h'.deeds ++ ds)) (sym x.is) (given_commit c (k, x.held) x.answer s.parent, held)
+      does_send : (s t : State Pin Segment) (e : Deed Segment) → Does c n s e t → DeedSends Q e
+      does_send s t e (takes_above at p m s' up) = given_take c (family n) p m s.parent
+      does_send s t e (takes_below at p m s' low heard) = take_outs Pin Segment c open_of (place n at) (s.current at) p (class_of n p) s.clock m (s.elements at)
+      does_send s t e (downs_above at p s' up) = given_downed p s.parent
+      does_send s t e (downs_below at p s' low) = downed_outs Pin Segment p (s.elements at)
+      does_send s t e (ups_above at p s' up) = tt
+      does_send s t e (ups_below at p s' low) = tt
+      does_send s t e (solves_above k h s' x) = given_commit c (k, x.held) x.answer s.parent
+      does_send s t e (solves_below d k h s' x) = commit_outs Pin Segment c (place n d) (k, x.held) x.down s.clock (λ b. b.segment) x.rows.source_known x.rows.target_known x.rows.best (s.elements d)
+      does_send s t e (pops a b rest s') = tt
+      does_send s t e (hands_out i bytes s') = tt
+      does_send s t e (says_own at p o s') = (owns o, tt)
+      does_send s t e (clears_link x s') = tt
+      does_send s t e (expires_at now s') = tt
+      does_send s t e (loads_rows d g s') = tt
 
       pub run_sent : (es : List Entry) (s : Plant) → Run c n es s → AreSent (deeds_of c n es)
-      run_sent = run_holds c n Sends tt act_sent (λ ds s d g given held. (tt, held)) solve_sent upper_sent
+      run_sent = run_keeps c n (λ ds s. AreSent ds) (λ ds s t elements above current all. all) (λ ds s t e does all. (does_send s t e does, all)) tt
