@@ -37,16 +37,8 @@ module _ (n : NetworkParts) where
       go false is = is
 
   mute_deed : {S : Type 0} (d : Deed S) → IsMuteDeed d → heard_in wire n d ≡ heard_of n (sent_in wire d)
-  mute_deed (Loads at g) mute = refl
-  mute_deed (Pops a b) mute = refl
-  mute_deed (Takes at p m outputs) mute = refl
-  mute_deed (Says at o) mute = refl
-  mute_deed (Ups at p) mute = refl
-  mute_deed (Downs at p outputs) mute = refl
-  mute_deed (Clears a b) mute = refl
-  mute_deed (Solves at k outputs keys) mute = refl
-  mute_deed (Expires now) mute = refl
   mute_deed (Hands i bytes) mute = absurd mute
+  mute_deed _ mute = refl
 
   -- where nothing is handed out messages are all that is heard
   mute_heard : {S : Type 0} (ds : List (Deed S)) → IsMute ds → heard wire n ds ≡ heard_of n (said wire ds)

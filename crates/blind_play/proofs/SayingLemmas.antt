@@ -45,14 +45,7 @@ module _ (n : NetworkParts) where
 
   carry_given : (s : BlindState) (e : BlindEvent) → IsDueCarry n s (Some e) → IsBlindGiven e
   carry_given s (blind.Carry a b) is = tt
-  carry_given s (blind.Open i holder) is = absurd is
-  carry_given s (blind.Shut i) is = absurd is
-  carry_given s (blind.Feed i bytes) is = absurd is
-  carry_given s (blind.Take i) is = absurd is
-  carry_given s (blind.Break a b) is = absurd is
-  carry_given s (blind.Solve d k rows) is = absurd is
-  carry_given s (blind.Tick t) is = absurd is
-  carry_given s (blind.Drain i holder) is = absurd is
+  carry_given s _ is = absurd is
 
   feed_follows : (i : ℕ) (bytes : Bytes) (s : BlindState) (ts : List Turn) (end : BlindState) → PlaysFeed i bytes n s ts end → Follow s ts end
   feed_follows i bytes s ts end p =

@@ -93,16 +93,8 @@ module _ (n : NetworkParts) (s : Plant) (older : List Entry) (run : Run wire n o
 
   event_discloses : (e : Event) (h : Happened) (o : Outcome) (rows : List BorderRow) → Happens wire n s e h → h.answer ≡ Ok o →
       cond (is_domain_solve e) (cond (tells_closed n (said wire h.deeds)) (TableAt (unsaid n s) e rows) (rows ≡ [])) (rows ≡ []) → Discloses wire n s e rows
-  event_discloses (event.Load d g) h o rows happens ok shown = shown
-  event_discloses (event.Open i holder) h o rows happens ok shown = shown
-  event_discloses (event.Shut i) h o rows happens ok shown = shown
-  event_discloses (event.Feed i bytes) h o rows happens ok shown = shown
-  event_discloses (event.Take i) h o rows happens ok shown = shown
-  event_discloses (event.Carry a b) h o rows happens ok shown = shown
-  event_discloses (event.Break a b) h o rows happens ok shown = shown
-  event_discloses (event.Tick now) h o rows happens ok shown = shown
-  event_discloses (event.Drain i holder) h o rows happens ok shown = shown
   event_discloses (event.Solve d k) h o rows happens ok shown = solve_discloses d k h o rows (same_as d parent_as) refl happens ok shown
+  event_discloses _ h o rows happens ok shown = shown
 
   -- a turn in which rows are shown
   module _ (m : Modes) (on : m.disclose ≡ true) (t : Turn) (is : IsTurn m n s t) where

@@ -186,14 +186,7 @@ module _ (n : NetworkParts) (i : ℕ) (q : Question) where
   others_stay : (e : Event) → IsOfOthers e → turn_for i e ≡ Stays
   others_stay (event.Carry a b) h = refl
   others_stay (event.Solve a k) h = refl
-  others_stay (event.Load a g) h = absurd h
-  others_stay (event.Open j holder) h = absurd h
-  others_stay (event.Shut j) h = absurd h
-  others_stay (event.Feed j bytes) h = absurd h
-  others_stay (event.Take j) h = absurd h
-  others_stay (event.Break a b) h = absurd h
-  others_stay (event.Tick t) h = absurd h
-  others_stay (event.Drain j holder) h = absurd h
+  others_stay _ h = absurd h
 
   -- all that was put since the question is the last of it
   put_last : (es : List Entry) (t : Tail es) (o : Outlet) → outlet i es ≡ Some o → (before : List Message) × (o.put ≡ before ++ fresh es t)
@@ -224,12 +217,7 @@ module _ (n : NetworkParts) (i : ℕ) (q : Question) where
   deed_put x (Says at o) some = here_put x (same_as at d) (o ∷ []) some
   deed_put x (Downs at p os) some = here_put x (same_as at d) os some
   deed_put x (Solves at k os keys) some = here_put x (same_as at d) os some
-  deed_put x (Loads at g) some = absurd (omega (arith, some))
-  deed_put x (Pops a b) some = absurd (omega (arith, some))
-  deed_put x (Ups at p) some = absurd (omega (arith, some))
-  deed_put x (Clears a b) some = absurd (omega (arith, some))
-  deed_put x (Expires t) some = absurd (omega (arith, some))
-  deed_put x (Hands j bytes) some = absurd (omega (arith, some))
+  deed_put x _ some = absurd (omega (arith, some))
 
   some_more : (ms ms' : List Message) → (1 ≤ length ms) ⊎ (1 ≤ length ms') → 1 ≤ length (ms ++ ms')
   some_more [] ms' (inl empty) = absurd (omega (arith, empty))

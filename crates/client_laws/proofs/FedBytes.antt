@@ -43,16 +43,8 @@ take_fed : (peer : ℕ) (s : Plant) (e : Event) → IsDueTake peer s (Some e) �
 take_fed peer s e is = ap fed_by is
 
 going_fed : (until : Until) (n : NetworkParts) (s : Plant) (e : Event) → IsDue until n s (Some e) → fed_by e ≡ 0
-going_fed until n s (event.Load d g) is = refl
-going_fed until n s (event.Open i holder) is = refl
-going_fed until n s (event.Shut i) is = refl
 going_fed until n s (event.Feed i bytes) is = absurd is
-going_fed until n s (event.Take i) is = refl
-going_fed until n s (event.Carry a b) is = refl
-going_fed until n s (event.Break a b) is = refl
-going_fed until n s (event.Solve d k) is = refl
-going_fed until n s (event.Tick now) is = refl
-going_fed until n s (event.Drain i holder) is = refl
+going_fed until n s _ is = refl
 
 module _ (number : ℕ) (old : PlayedNetwork) (answer : Answered) (turns : List Turn) (told : List ℕ) (end : Plant) where
   made_fed : (e : Event) → PlaysOne number old e answer turns told end → Feed turns (fed_by e)

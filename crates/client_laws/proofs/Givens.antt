@@ -35,15 +35,8 @@ take_given peer s e is = subst IsGiven (sym is) tt
 
 going_given : (until : Until) (n : NetworkParts) (s : Plant) (e : Event) → IsDue until n s (Some e) → IsGiven e
 going_given until n s (event.Load d g) is = absurd is
-going_given until n s (event.Open i holder) is = tt
-going_given until n s (event.Shut i) is = tt
 going_given until n s (event.Feed i bytes) is = absurd is
-going_given until n s (event.Take i) is = tt
-going_given until n s (event.Carry a b) is = tt
-going_given until n s (event.Break a b) is = tt
-going_given until n s (event.Solve d k) is = tt
-going_given until n s (event.Tick now) is = tt
-going_given until n s (event.Drain i holder) is = tt
+going_given until n s _ is = tt
 
 -- ---- the kinds of lines
 

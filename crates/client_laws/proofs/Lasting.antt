@@ -308,9 +308,4 @@ module _ (n : NetworkParts) (net : IsNetwork n) (i : ℕ) (q : Question) (downs 
       go true lost = on_lost i (IsLostAbove p) asker_above (left_above before.parent.pending.rows earlier) os lost
       go false lost = on_lost i (IsLost p) asker_of (left_rows at (before.elements at).pending.rows earlier) os lost
   deed_final (Solves at k os keys) older within earlier cause = solved_final at k os keys older within cause
-  deed_final (Loads at g) older within earlier cause = tt
-  deed_final (Pops a b) older within earlier cause = tt
-  deed_final (Ups at p) older within earlier cause = tt
-  deed_final (Clears a b) older within earlier cause = tt
-  deed_final (Expires t) older within earlier cause = tt
-  deed_final (Hands j bytes) older within earlier cause = tt
+  deed_final _ older within earlier cause = tt

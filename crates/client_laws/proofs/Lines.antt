@@ -34,14 +34,7 @@ due_stay i until m n s (t ∷ ts) end all = (go t.entry.event all.0, due_stay i 
     go : (e : Event) → IsDue until n s (Some e) → turn_for i e ≡ Stays
     go (event.Carry a b) h = refl
     go (event.Solve d k) h = refl
-    go (event.Load d g) h = absurd h
-    go (event.Open j holder) h = absurd h
-    go (event.Shut j) h = absurd h
-    go (event.Feed j bytes) h = absurd h
-    go (event.Take j) h = absurd h
-    go (event.Break a b) h = absurd h
-    go (event.Tick t) h = absurd h
-    go (event.Drain j holder) h = absurd h
+    go _ h = absurd h
 
 takes_stay : (i peer : ℕ) (m : Modes) (n : NetworkParts) (s : Plant) (ts : List Turn) (end : Plant) → AreDue (IsDueTake peer) m n s ts end → AllStay i ts
 takes_stay i peer m n s [] end all = tt

@@ -128,14 +128,7 @@ module _ (n : NetworkParts) (i : ℕ) where
         go : (e : Event) → IsDue until n s (Some e) → Happens wire n s e (happened_at t) → Walks n i P (t.entry ∷ older) t.after
         go (event.Carry a b) due h = stepped P t older w.calm (carry_stays wire n i P none more a b s (happened_at t) h w.at)
         go (event.Solve d k) due h = stepped P t older w.calm (solve_stays wire n i P none more d k s (happened_at t) h w.at)
-        go (event.Load d g) due h = absurd due
-        go (event.Open j holder) due h = absurd due
-        go (event.Shut j) due h = absurd due
-        go (event.Feed j bytes) due h = absurd due
-        go (event.Take j) due h = absurd due
-        go (event.Break a b) due h = absurd due
-        go (event.Tick now) due h = absurd due
-        go (event.Drain j holder) due h = absurd due
+        go _ due h = absurd due
 
   -- ---- what the peer fed is taken
 
@@ -291,14 +284,7 @@ module _ (n : NetworkParts) (i : ℕ) where
         go : (e : Event) → IsDue until n s (Some e) → IsOfOthers e
         go (event.Carry a b) due = tt
         go (event.Solve d k) due = tt
-        go (event.Load d g) due = absurd due
-        go (event.Open j holder) due = absurd due
-        go (event.Shut j) due = absurd due
-        go (event.Feed j bytes) due = absurd due
-        go (event.Take j) due = absurd due
-        go (event.Break a b) due = absurd due
-        go (event.Tick now) due = absurd due
-        go (event.Drain j holder) due = absurd due
+        go _ due = absurd due
 
     -- it is the one that is taken
     one_taken : IsWritten (question_message question) → (m : Modes) (s : Plant) (ts : List Turn) (end : Plant) (older : List Entry) → AreDue (IsDueTake i) m n s ts end → inbox_from (end.accesses i).connection ≡ [] →

@@ -49,14 +49,7 @@ IsCalm i (Inner a) m = Unit {0}
 abbrev pub IsHarmless : ℕ → PlantDeed → Type 0
 IsHarmless i (Takes at p m os) = IsCalm i p m
 IsHarmless i (Downs at p os) = same_peer p (Outside i) ≡ false
-IsHarmless i (Loads at g) = Unit {0}
-IsHarmless i (Pops a b) = Unit {0}
-IsHarmless i (Says at o) = Unit {0}
-IsHarmless i (Ups at p) = Unit {0}
-IsHarmless i (Clears a b) = Unit {0}
-IsHarmless i (Solves at k os keys) = Unit {0}
-IsHarmless i (Expires now) = Unit {0}
-IsHarmless i (Hands j bytes) = Unit {0}
+IsHarmless i _ = Unit {0}
 
 abbrev pub AreHarmless : ℕ → Transcript → Type 0
 AreHarmless i [] = Unit {0}

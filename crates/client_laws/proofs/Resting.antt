@@ -64,14 +64,7 @@ module _ (m : Modes) (n : NetworkParts) where
       go : (e : Event) → IsDue until n s (Some e) → Happens wire n s e (happened_at t) → AreTaken t.after
       go (event.Carry a b) due h = taking.keeps_carry n a b s (happened_at t) h taken
       go (event.Solve d k) due h = taking.keeps_solve n d k s (happened_at t) h taken
-      go (event.Load d g) due h = absurd due
-      go (event.Open j holder) due h = absurd due
-      go (event.Shut j) due h = absurd due
-      go (event.Feed j bytes) due h = absurd due
-      go (event.Take j) due h = absurd due
-      go (event.Break a b) due h = absurd due
-      go (event.Tick now) due h = absurd due
-      go (event.Drain j holder) due h = absurd due
+      go _ due h = absurd due
 
   takes_keep : (j : ℕ) (s : Plant) (ts : List Turn) (end : Plant) → AreDue (IsDueTake j) m n s ts end → AreTakenBut j s → AreTakenBut j end
   takes_keep j s [] end all taken = subst (AreTakenBut j) (sym all) taken

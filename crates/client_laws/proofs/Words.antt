@@ -123,10 +123,8 @@ module _ (i : ℕ) where
 
   -- replies of others go on from elements alone
   abbrev pub IsNoReply : Bool → Part → Type 0
-  IsNoReply of_parent (causes.Asks a) = Unit {0}
   IsNoReply of_parent (causes.Replies r) = of_parent ≡ false
-  IsNoReply of_parent (causes.Notes kinds rp) = Unit {0}
-  IsNoReply of_parent (causes.Fails e rp) = Unit {0}
+  IsNoReply of_parent _ = Unit {0}
 
   abbrev pub AreNoReplies : Bool → List Part → Type 0
   AreNoReplies of_parent [] = Unit {0}

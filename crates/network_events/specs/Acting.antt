@@ -58,9 +58,7 @@ RoomFor at to (Pass m) ms f = ⊥
 -- what it leaves as it was, and what it spends, where others may follow
 abbrev pub LeavesOff : {P : Type 0} {S : Type 0} → As → Peer → Action → Membership P S → Flow → Membership P S → Flow → Type 0
 LeavesOff at to (Send o) ms f ms' f' = (ms' ≡ ms) × Spent at to (own_bytes o ∷ []) f f'
-LeavesOff at to Up ms f ms' f' = Unit {0}
-LeavesOff at to (Down why) ms f ms' f' = Unit {0}
-LeavesOff at to (Pass m) ms f ms' f' = Unit {0}
+LeavesOff at to _ ms f ms' f' = Unit {0}
 
 -- An input passes nothing on, and there is room for what its actions ask for.
 pub record Fits {P : Type 0} {S : Type 0} (at : As) (to : Peer) (as' : List Action) (ms : Membership P S) (f : Flow) : Type 0 where

@@ -47,11 +47,8 @@ changed current (Solves number solved now segments) k = ended number (record k {
 
 -- what was solved, in a change that answers it
 abbrev pub solved_in : {S : Type 0} {D : Type 0} → Change D S → Option D
-solved_in Nothing = None
-solved_in (Opens peer id opening) = None
-solved_in (Readies number branches) = None
-solved_in (Ends numbers) = None
 solved_in (Solves number solved now segments) = Some solved
+solved_in _ = None
 
 pub record MayIssue {S : Type 0} (keys : Keys S) (now : ℕ) (segments : List S) : Type 0 where
   pub clock : keys.clock ≤ now
@@ -75,11 +72,9 @@ Fits s (Solves number solved now segments) = MayIssue s.losing.element.keys now.
 
 -- there is memory for it
 abbrev pub HasRoom : {P : Type 0} {S : Type 0} {D : Type 0} → Seen P S → Change D S → Type 0
-HasRoom s Nothing = Unit {0}
 HasRoom s (Opens peer id opening) = 1 ≤ s.room.requests
-HasRoom s (Readies number branches) = Unit {0}
-HasRoom s (Ends numbers) = Unit {0}
 HasRoom s (Solves number solved now segments) = length segments ≤ s.room.keys
+HasRoom s _ = Unit {0}
 
 -- A draft is one of this element, and makes this of it.
 pub record IsDraft {P : Type 0} {S : Type 0} {D : Type 0} (s : Seen P S) (taken : Taken P S) (d : Draft D S) : Type 0 where

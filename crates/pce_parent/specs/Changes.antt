@@ -39,11 +39,8 @@ changed (Solves solved) k = ended solved.job.number k
 
 -- the solved job that a change holds
 abbrev pub solved_in : Change → Option BorderSolution
-solved_in Nothing = None
-solved_in (Opens peer id asking ways) = None
-solved_in (Gathers number peer id rows) = None
-solved_in (Ends numbers) = None
 solved_in (Solves solved) = Some solved
+solved_in _ = None
 
 pub record MayOpen (s : Seen) (peer : Peer) (id : ℕ) : Type 0 where
   pub new : number_of s.losing.parent.pending peer id ≡ None
@@ -56,19 +53,14 @@ Waits p y (Some item) = among p item.waits y ≡ true
 
 -- the change is one of this parent
 abbrev pub Fits : Seen → Change → Type 0
-Fits s Nothing = Unit {0}
 Fits s (Opens peer id asking ways) = MayOpen s peer id
 Fits s (Gathers number peer id rows) = Waits peer id (item_of s.losing.parent.pending number)
-Fits s (Ends numbers) = Unit {0}
-Fits s (Solves solved) = Unit {0}
+Fits s _ = Unit {0}
 
 -- there is memory for it
 abbrev pub HasRoom : Seen → Change → Type 0
-HasRoom s Nothing = Unit {0}
 HasRoom s (Opens peer id asking ways) = 1 ≤ s.room
-HasRoom s (Gathers number peer id rows) = Unit {0}
-HasRoom s (Ends numbers) = Unit {0}
-HasRoom s (Solves solved) = Unit {0}
+HasRoom s _ = Unit {0}
 
 -- A draft is one of this parent, and makes this of it.
 pub record IsDraft (s : Seen) (given : ParentTaken) (d : Draft) : Type 0 where

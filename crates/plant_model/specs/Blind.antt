@@ -98,15 +98,11 @@ module _ (c : Codec) (n : NetworkParts) where
 
   -- whether an event may be refused for want of memory: not where it takes none
   abbrev pub needs_memory : BlindState → BlindEvent → Bool
-  needs_memory s (blind.Open i holder) = true
   needs_memory s (blind.Shut i) = false
   needs_memory s (blind.Feed i bytes) = events.takes_feed (s.accesses i).connection
-  needs_memory s (blind.Take i) = true
-  needs_memory s (blind.Carry a b) = true
   needs_memory s (blind.Break a b) = false
-  needs_memory s (blind.Solve d k rows) = true
   needs_memory s (blind.Tick t) = false
-  needs_memory s (blind.Drain i holder) = true
+  needs_memory s _ = true
 
   -- A step: what happens, or want of memory, which changes nothing.
   abbrev pub BlindSteps : BlindState → BlindEvent → BlindHappened → Type 0

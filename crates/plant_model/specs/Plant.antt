@@ -143,16 +143,11 @@ module _ (c : Codec) (n : NetworkParts) where
 
   -- whether an event may be refused for want of memory: not where it takes none
   abbrev pub needs_memory : Plant → Event → Bool
-  needs_memory s (event.Load d g) = true
-  needs_memory s (event.Open i holder) = true
   needs_memory s (event.Shut i) = false
   needs_memory s (event.Feed i bytes) = events.takes_feed (s.accesses i).connection
-  needs_memory s (event.Take i) = true
-  needs_memory s (event.Carry a b) = true
   needs_memory s (event.Break a b) = false
-  needs_memory s (event.Solve d k) = true
   needs_memory s (event.Tick t) = false
-  needs_memory s (event.Drain i holder) = true
+  needs_memory s _ = true
 
   -- A step: what happens, or want of memory, which changes nothing.
   abbrev pub Steps : Plant → Event → Happened → Type 0

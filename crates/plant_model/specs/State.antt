@@ -64,12 +64,7 @@ sent_in c (Takes at from m outputs) = sent_by c at outputs
 sent_in c (Says at o) = sent_by c at (o ∷ [])
 sent_in c (Downs at p outputs) = sent_by c at outputs
 sent_in c (Solves at number outputs keys) = sent_by c at outputs
-sent_in c (Loads at g) = []
-sent_in c (Pops a b) = []
-sent_in c (Ups at p) = []
-sent_in c (Clears a b) = []
-sent_in c (Expires now) = []
-sent_in c (Hands i bytes) = []
+sent_in c _ = []
 
 -- the messages of an event, in order; its deeds have the newest first
 abbrev pub said : {S : Type 0} → Codec → List (Deed S) → List Sent

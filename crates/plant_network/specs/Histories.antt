@@ -31,10 +31,7 @@ done_by e = (e.event, e.answer)
 -- what is given with each event is what its types say
 abbrev pub IsGivenIn : Act → Type 0
 IsGivenIn (Do e) = IsGiven e
-IsGivenIn (Look d k) = Unit {0}
-IsGivenIn (Ready k) = Unit {0}
-IsGivenIn (Finish x) = Unit {0}
-IsGivenIn (Map d) = Unit {0}
+IsGivenIn _ = Unit {0}
 
 abbrev pub AreGiven : List (Act × ActAnswer) → Type 0
 AreGiven [] = Unit {0}

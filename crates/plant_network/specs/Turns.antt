@@ -25,10 +25,8 @@ use Rattle.plant_network.specs.declared.acts.ActAnswer.{ActAnswer}
 
 abbrev pub Admits : Whole → Act → Type 0
 Admits w (Do e) = IsOwnLoad e
-Admits w (Look d k) = Unit {0}
-Admits w (Ready k) = Unit {0}
 Admits w (Finish x) = IsOwn w x
-Admits w (Map d) = Unit {0}
+Admits w _ = Unit {0}
 
 -- ---- what is answered
 

@@ -24,14 +24,7 @@ fed_to bytes (stream ∷ older) = (stream ++ bytes) ∷ older
 abbrev pub streams_with : ℕ → Event → List Bytes → List Bytes
 streams_with i (event.Open j holder) streams = cond (j == i) ([] ∷ streams) streams
 streams_with i (event.Feed j bytes) streams = cond (j == i) (fed_to bytes streams) streams
-streams_with i (event.Load d g) streams = streams
-streams_with i (event.Shut j) streams = streams
-streams_with i (event.Take j) streams = streams
-streams_with i (event.Carry a b) streams = streams
-streams_with i (event.Break a b) streams = streams
-streams_with i (event.Solve d k) streams = streams
-streams_with i (event.Tick t) streams = streams
-streams_with i (event.Drain j holder) streams = streams
+streams_with i _ streams = streams
 
 -- what the peer fed in accepted events, a stream for each Open, the newest first
 abbrev pub streams : ℕ → List Entry → List Bytes

@@ -47,13 +47,7 @@ abbrev pub turn_for : ℕ → Event → ConnectionChange
 turn_for i (event.Open j holder) = cond (j == i) (Opens holder) Stays
 turn_for i (event.Shut j) = cond (j == i) Shuts Stays
 turn_for i (event.Drain j holder) = cond (j == i) Drains Stays
-turn_for i (event.Load d g) = Stays
-turn_for i (event.Feed j bytes) = Stays
-turn_for i (event.Take j) = Stays
-turn_for i (event.Carry a b) = Stays
-turn_for i (event.Break a b) = Stays
-turn_for i (event.Solve d k) = Stays
-turn_for i (event.Tick t) = Stays
+turn_for i _ = Stays
 
 -- who opened it, what was put there for it since, and what its drains handed out
 pub record Outlet : Type 0 where

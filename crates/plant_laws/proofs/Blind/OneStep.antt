@@ -207,15 +207,7 @@ module _ (c : Codec) (n : NetworkParts) (fars : FarsDiffer n) (s : Plant) (sound
 
   one_happens : (e : Event) (h h' : Happened) → Happens c n s e h → Happens c n s e h' → h ≡ h'
   one_happens (event.Solve d k) h h' x y = one_solving d k h h' x y
-  one_happens (event.Load d g) h h' x y = x ∙ sym y
-  one_happens (event.Open i holder) h h' x y = x ∙ sym y
-  one_happens (event.Shut i) h h' x y = x ∙ sym y
-  one_happens (event.Feed i bytes) h h' x y = x ∙ sym y
-  one_happens (event.Take i) h h' x y = x ∙ sym y
-  one_happens (event.Carry a b) h h' x y = x ∙ sym y
-  one_happens (event.Break a b) h h' x y = x ∙ sym y
-  one_happens (event.Tick t) h h' x y = x ∙ sym y
-  one_happens (event.Drain i holder) h h' x y = x ∙ sym y
+  one_happens _ h h' x y = x ∙ sym y
 
 pub steps_are_one : StepsAreOne
 steps_are_one c n network es s run e one other x y = one_happens c n (fars_of n network) s (run_sound c n es s run) e one other x y

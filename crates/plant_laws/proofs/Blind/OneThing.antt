@@ -35,14 +35,7 @@ use Rattle.plant_laws.proofs.Blind.SaysBlind.{says}
 -- The rows of each solve stand in order, so that there is one for an entry and a way out.
 abbrev pub IsOrdered : BlindEvent → Type 0
 IsOrdered (blind.Solve d k rows) = AllPairs IsRowBefore rows
-IsOrdered (blind.Open i holder) = Unit {0}
-IsOrdered (blind.Shut i) = Unit {0}
-IsOrdered (blind.Feed i bytes) = Unit {0}
-IsOrdered (blind.Take i) = Unit {0}
-IsOrdered (blind.Carry a b) = Unit {0}
-IsOrdered (blind.Break a b) = Unit {0}
-IsOrdered (blind.Tick t) = Unit {0}
-IsOrdered (blind.Drain i holder) = Unit {0}
+IsOrdered _ = Unit {0}
 
 abbrev pub AreOrdered : List BlindEvent → Type 0
 AreOrdered [] = Unit {0}
@@ -138,14 +131,7 @@ module _ (c : Codec) (n : NetworkParts) (fars : FarsDiffer n) where
 
   one_happens : (s : BlindState) (x : BlindEvent) (h h' : BlindHappened) → IsOrdered x → BlindHappens c n s x h → BlindHappens c n s x h' → h ≡ h'
   one_happens s (blind.Solve d k rows) h h' order x y = one_solving d k rows s h h' order x y
-  one_happens s (blind.Open i holder) h h' order x y = x ∙ sym y
-  one_happens s (blind.Shut i) h h' order x y = x ∙ sym y
-  one_happens s (blind.Feed i bytes) h h' order x y = x ∙ sym y
-  one_happens s (blind.Take i) h h' order x y = x ∙ sym y
-  one_happens s (blind.Carry a b) h h' order x y = x ∙ sym y
-  one_happens s (blind.Break a b) h h' order x y = x ∙ sym y
-  one_happens s (blind.Tick t) h h' order x y = x ∙ sym y
-  one_happens s (blind.Drain i holder) h h' order x y = x ∙ sym y
+  one_happens s _ h h' order x y = x ∙ sym y
 
   pub says_one : (trace : List BlindEvent) → AreOrdered trace → (xs ys : List Heard) (a b : BlindState) → BlindSays c n trace xs a → BlindSays c n trace ys b → (xs ≡ ys) × (a ≡ b)
   says_one [] order xs ys a b f g = (f.0 ∙ sym g.0, f.1 ∙ sym g.1)
@@ -193,15 +179,8 @@ module _ (c : Codec) (n : NetworkParts) where
 
   event_ordered : (e : Event) (s : Plant) (h : Happened) (rows : List BorderRow) (earlier : List BlindEvent) → Steps c n s e h → is_accepted h.answer ≡ true → Discloses c n s e rows → AreOrdered earlier → AreOrdered (with_event (blind_of e rows) earlier)
   event_ordered (event.Load d g) s h rows earlier steps ok disclosed are = are
-  event_ordered (event.Open i holder) s h rows earlier steps ok disclosed are = (tt, are)
-  event_ordered (event.Shut i) s h rows earlier steps ok disclosed are = (tt, are)
-  event_ordered (event.Feed i bytes) s h rows earlier steps ok disclosed are = (tt, are)
-  event_ordered (event.Take i) s h rows earlier steps ok disclosed are = (tt, are)
-  event_ordered (event.Carry a b) s h rows earlier steps ok disclosed are = (tt, are)
-  event_ordered (event.Break a b) s h rows earlier steps ok disclosed are = (tt, are)
-  event_ordered (event.Tick t) s h rows earlier steps ok disclosed are = (tt, are)
-  event_ordered (event.Drain i holder) s h rows earlier steps ok disclosed are = (tt, are)
   event_ordered (event.Solve d k) s h rows earlier steps ok disclosed are = (solve_ordered d k s h rows steps ok disclosed, are)
+  event_ordered _ s h rows earlier steps ok disclosed are = (tt, are)
 
   step_ordered : (e : Entry) (s after : Plant) (trace earlier : List BlindEvent) → (t : Bool) → is_accepted e.answer ≡ t → Steps c n s e.event (record { answer = e.answer; state = after; deeds = e.deeds }) →
       cond t ((rows : List BorderRow) × Discloses c n s e.event rows × (trace ≡ with_event (blind_of e.event rows) earlier)) (trace ≡ earlier) → AreOrdered earlier → AreOrdered trace

@@ -66,27 +66,11 @@ plain_nil es more is plain = subst Plain (sym (is ∙ nil_right more)) plain
 -- a moment that took a message is not among deeds that take none
 abbrev pub is_take : PlantDeed → Bool
 is_take (Takes at from m os) = true
-is_take (Loads at g) = false
-is_take (Pops a b) = false
-is_take (Says at o) = false
-is_take (Ups at p) = false
-is_take (Downs at p os) = false
-is_take (Clears a b) = false
-is_take (Solves at k os keys) = false
-is_take (Expires now) = false
-is_take (Hands i bytes) = false
+is_take _ = false
 
 plain_no_take : (e : PlantDeed) → is_plain e ≡ true → is_take e ≡ false
 plain_no_take (Takes at from m os) e = let no : false ≡ true = e in cc
-plain_no_take (Loads at g) e = refl
-plain_no_take (Pops a b) e = refl
-plain_no_take (Says at o) e = refl
-plain_no_take (Ups at p) e = refl
-plain_no_take (Downs at p os) e = refl
-plain_no_take (Clears a b) e = refl
-plain_no_take (Solves at k os keys) e = refl
-plain_no_take (Expires now) e = refl
-plain_no_take (Hands i bytes) e = refl
+plain_no_take _ e = refl
 
 abbrev pub TakesNone : Transcript → Type 0
 TakesNone [] = Unit {0}

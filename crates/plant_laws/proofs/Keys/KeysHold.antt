@@ -197,15 +197,7 @@ module _ (c : Codec) (n : NetworkParts) where
   -- each deed that solves has such keys
   abbrev Solved : PlantDeed → Type 0
   Solved (Solves at k os keys) = Differ keys
-  Solved (Takes at from m os) = Unit {0}
-  Solved (Loads at g) = Unit {0}
-  Solved (Pops a b) = Unit {0}
-  Solved (Says at o) = Unit {0}
-  Solved (Ups at p) = Unit {0}
-  Solved (Downs at p os) = Unit {0}
-  Solved (Clears a b) = Unit {0}
-  Solved (Expires now) = Unit {0}
-  Solved (Hands i bytes) = Unit {0}
+  Solved _ = Unit {0}
 
   abbrev AllSolved : Transcript → Type 0
   AllSolved [] = Unit {0}
@@ -217,15 +209,7 @@ module _ (c : Codec) (n : NetworkParts) where
 
   plain_one : (e : PlantDeed) → is_plain e ≡ true → Solved e
   plain_one (Solves at k os keys) plain = let no : false ≡ true = plain in cc
-  plain_one (Takes at from m os) plain = tt
-  plain_one (Loads at g) plain = tt
-  plain_one (Pops a b) plain = tt
-  plain_one (Says at o) plain = tt
-  plain_one (Ups at p) plain = tt
-  plain_one (Downs at p os) plain = tt
-  plain_one (Clears a b) plain = tt
-  plain_one (Expires now) plain = tt
-  plain_one (Hands i bytes) plain = tt
+  plain_one _ plain = tt
 
   plain_solved : (es : Transcript) → Plain es → AllSolved es
   plain_solved [] plain = tt

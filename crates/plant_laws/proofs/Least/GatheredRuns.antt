@@ -219,12 +219,8 @@ module _ (c : Codec) (n : NetworkParts) where
   comes_of s t ds e (solves_below d k h s' x) one both =
       let r = commit c (place n d) (k, x.held) x.down s.clock (λ b. b.segment) (job_found x.rows.source_known x.rows.target_known x.rows.best) (s.elements d) in
       stay e ds s t (puts_parent c n d r.outputs (with_element Pin Segment c n open_of d r.element s)) both.1
-  comes_of s t ds e (pops a b rest s') one both = stay e ds s t refl both.1
-  comes_of s t ds e (hands_out i bytes s') one both = stay e ds s t refl both.1
   comes_of s t ds e (says_own at p o s') one both = stay e ds s t (puts_parent c n at (record { to = p; message = own_message o } ∷ []) s) both.1
-  comes_of s t ds e (clears_link x s') one both = stay e ds s t refl both.1
-  comes_of s t ds e (expires_at now s') one both = stay e ds s t refl both.1
-  comes_of s t ds e (loads_rows d g s') one both = stay e ds s t refl both.1
+  comes_of s t ds e _ one both = stay e ds s t refl both.1
 
   both_same : (ds : Transcript) (s t : Core) → t.elements ≡ s.elements → t.parent ≡ s.parent → t.current ≡ s.current → Both ds s → Both ds t
   both_same ds s t elements above current both = (holds_same c n ds s t elements above current both.0, λ h i. both.1 h (subst (λ (k : Parent). In h k.pending.rows) above i))

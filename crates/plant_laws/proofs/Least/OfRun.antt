@@ -65,15 +65,7 @@ same_moment o a b e f = let one : Some a ≡ Some b = sym e ∙ f in cc
 module _ (c : Codec) (codec : IsCodec c) (n : NetworkParts) (net : IsNetwork n) where
   abbrev IsMoment : PlantDeed → Transcript → Type 0
   IsMoment (Solves d k os keys) older = (d ≢ parent_as → IsSolved c n older d k os keys) × (d ≡ parent_as → IsSolvedAbove c n older k os)
-  IsMoment (Loads at g) older = Unit {0}
-  IsMoment (Pops a b) older = Unit {0}
-  IsMoment (Takes at from m os) older = Unit {0}
-  IsMoment (Says at o) older = Unit {0}
-  IsMoment (Ups at p) older = Unit {0}
-  IsMoment (Downs at p os) older = Unit {0}
-  IsMoment (Clears a b) older = Unit {0}
-  IsMoment (Expires t) older = Unit {0}
-  IsMoment (Hands i bytes) older = Unit {0}
+  IsMoment _ older = Unit {0}
 
   -- a solve, from the state before it
   abbrev pub solved_of : (es : List Entry) (s : Plant) → Run c n es s → AllSent IsWritten (deeds_of c n es) → (d : As) (k : ℕ) (h : Happened) (x : ElementSolves c n d k s h) →

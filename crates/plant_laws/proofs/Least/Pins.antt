@@ -82,13 +82,11 @@ module _ (c : Codec) (n : NetworkParts) where
   act_leaves s t es (carries a b bytes rest m s' u is read same) =
       let g = give_leaves b (Inner a) m u (Pops a b ∷ []) (λ d ds. refl) (λ d ds. refl) in
       record { current = g.current ∙ same.current; loaded' = g.loaded'; loads' = g.loads' }
-  act_leaves s t es (nods a b bytes rest s' is) = record { current = refl; loaded' = λ d ds. refl; loads' = λ d ds. refl }
   act_leaves s t es (hands i bytes s' t' same) = record { current = same.current; loaded' = λ d ds. refl; loads' = λ d ds. refl }
   act_leaves s t es (rises at p s') = rise_leaves at p s
   act_leaves s t es (falls at p s') = fall_leaves at p s
   act_leaves s t es (says at p o s') = record { current = puts_current at (record { to = p; message = own_message o } ∷ []) s; loaded' = λ d ds. refl; loads' = λ d ds. refl }
-  act_leaves s t es (clears x s') = record { current = refl; loaded' = λ d ds. refl; loads' = λ d ds. refl }
-  act_leaves s t es (expires now s') = record { current = refl; loaded' = λ d ds. refl; loads' = λ d ds. refl }
+  act_leaves s t es _ = record { current = refl; loaded' = λ d ds. refl; loads' = λ d ds. refl }
 
   pub record Current (ds : Transcript) (s : Plant) : Type 0 where
     pub number : (d : As) → (s.current d).number ≡ loads d ds

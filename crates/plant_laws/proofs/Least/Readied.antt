@@ -392,12 +392,9 @@ module _ (c : Codec) (n : NetworkParts) where
       let r = commit c (place n d) (k, x.held) x.down s.clock (λ b. b.segment) (job_found x.rows.source_known x.rows.target_known x.rows.best) (s.elements d) in
       come e d r.element s t (puts_elements c n d r.outputs (with_element Pin Segment c n open_of d r.element s))
       (λ g i. quiet_comes e d s the_parent g (commit_from c (s.elements d) (numbers ds s both d) the_parent (place n d) (k, x.held) x.down s.clock x.rows.source_known x.rows.target_known x.rows.best g i))
-  comes_of s t ds e (pops a b rest s') one both = stay e s t (λ d. refl)
-  comes_of s t ds e (hands_out i bytes s') one both = stay e s t (λ d. refl)
   comes_of s t ds e (says_own at p o s') one both = as_before e s t (puts_elements c n at (record { to = p; message = own_message o } ∷ []) s)
-  comes_of s t ds e (clears_link x s') one both = stay e s t (λ d. refl)
-  comes_of s t ds e (expires_at now s') one both = stay e s t (λ d. refl)
   comes_of s t ds e (loads_rows d g s') one both = stay e s t (λ d'. refl)
+  comes_of s t ds e _ one both = stay e s t (λ d. refl)
 
   pub all_same : (ds : Transcript) (s t : Core) → t.elements ≡ s.elements → t.parent ≡ s.parent → t.current ≡ s.current → All ds s → All ds t
   all_same ds s t elements above current all = (both_same c n ds s t elements above current all.0, ready_same ds s t elements all.1)

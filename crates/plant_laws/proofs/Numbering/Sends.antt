@@ -208,13 +208,7 @@ abbrev pub IsSparing : Deed Segment → Type 0
 IsSparing (Takes at p m os) = at ≢ parent_as → IsSingle m → IsTerseOut os
 IsSparing (Downs at p os) = at ≢ parent_as → NoneAsks os
 IsSparing (Solves at k os keys) = IsOne os
-IsSparing (Says at o) = Unit {0}
-IsSparing (Loads at g) = Unit {0}
-IsSparing (Pops a b) = Unit {0}
-IsSparing (Ups at p) = Unit {0}
-IsSparing (Clears a b) = Unit {0}
-IsSparing (Expires now) = Unit {0}
-IsSparing (Hands i bytes) = Unit {0}
+IsSparing _ = Unit {0}
 
 abbrev pub Each : (Deed Segment → Type 0) → Transcript → Type 0
 Each Q [] = Unit {0}
@@ -234,16 +228,9 @@ module _ (c : Codec) (n : NetworkParts) where
   does_spare s t e (takes_below at p m s' low heard) = λ other one. take_terse Pin Segment c open_of (place n at) (s.current at) p (class_of n p) s.clock m (s.elements at) one
   does_spare s t e (downs_above at p s' up) = λ other. absurd (not_parent at up other)
   does_spare s t e (downs_below at p s' low) = λ other. lost_none (lost p (s.elements at).pending.rows)
-  does_spare s t e (ups_above at p s' up) = tt
-  does_spare s t e (ups_below at p s' low) = tt
   does_spare s t e (solves_above k h s' x) = upper_one c (k, x.held) x.answer s.parent
   does_spare s t e (solves_below d k h s' x) = commit_one c (place n d) (k, x.held) x.down s.clock (λ b. b.segment) x.rows.source_known x.rows.target_known x.rows.best (s.elements d)
-  does_spare s t e (pops a b rest s') = tt
-  does_spare s t e (hands_out i bytes s') = tt
-  does_spare s t e (says_own at p o s') = tt
-  does_spare s t e (clears_link x s') = tt
-  does_spare s t e (expires_at now s') = tt
-  does_spare s t e (loads_rows d g s') = tt
+  does_spare s t e _ = tt
 
   pub run_spares : (es : List Entry) (s : Plant) → Run c n es s → Each IsSparing (deeds_of c n es)
   run_spares = run_keeps c n (λ ds s. Each IsSparing ds) (λ ds s t elements above current all. all) (λ ds s t e does all. (does_spare s t e does, all)) tt

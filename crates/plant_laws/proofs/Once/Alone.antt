@@ -69,12 +69,7 @@ IsAloneDeed (Takes at p m os) = IsAlone m × AllAlone os
 IsAloneDeed (Says at o) = IsAlone o.message
 IsAloneDeed (Downs at p os) = AllAlone os
 IsAloneDeed (Solves at k os keys) = AllAlone os
-IsAloneDeed (Loads at g) = Unit {0}
-IsAloneDeed (Pops a b) = Unit {0}
-IsAloneDeed (Ups at p) = Unit {0}
-IsAloneDeed (Clears a b) = Unit {0}
-IsAloneDeed (Expires now) = Unit {0}
-IsAloneDeed (Hands i bytes) = Unit {0}
+IsAloneDeed _ = Unit {0}
 
 -- what is put into a queue
 put_in : (b : As) (os : List Output) → AllAlone os → (m : Message) → In m (put_into b os) → IsAlone m
@@ -95,12 +90,7 @@ outputs_alone a (Takes at p m os) h = cond_alone (same_as at a) os h.1
 outputs_alone a (Says at o) h = cond_alone (same_as at a) (o ∷ []) (h, tt)
 outputs_alone a (Downs at p os) h = cond_alone (same_as at a) os h
 outputs_alone a (Solves at k os keys) h = cond_alone (same_as at a) os h
-outputs_alone a (Loads at g) h = tt
-outputs_alone a (Pops a' b) h = tt
-outputs_alone a (Ups at p) h = tt
-outputs_alone a (Clears a' b) h = tt
-outputs_alone a (Expires now) h = tt
-outputs_alone a (Hands i bytes) h = tt
+outputs_alone a _ h = tt
 
 new_in : (m : Transcript) (s : Standing) (ms : List Message) → In s (standing_of m ms) → In s.message ms
 new_in m s [] h = absurd h
@@ -217,14 +207,12 @@ module _ (c : Codec) (codec : IsCodec c) (n : NetworkParts) where
       let f = first_read c n a b ds s bytes rest m again stand is read in
       let first = standing_alone a b ds all f.0 (subst (λ (l : List Standing). In f.0 l) (sym f.2) (inl refl)) in
       give_alone b (Inner a) m u (Pops a b ∷ []) ds (subst IsAlone f.3 first) (tt, all)
-  step_alone ds s t es again stand all (keeps a b bytes rest m s' is read kept) = (tt, all)
-  step_alone ds s t es again stand all (hands i bytes s' t' same) = (tt, all)
   step_alone ds s t es again stand all (rises at p s') = rise_alone at p s ds all
   step_alone ds s t es again stand all (shuts i s') = fall_alone (element_of n i) (Outside i) (at_start s) ds all
   step_alone ds s t es again stand all (says at p o s') = (alone_own o, all)
-  step_alone ds s t es again stand all (expires now s') = (tt, all)
   step_alone ds s t es again stand all (breaks x s') = broken_alone x (at_start s) ds all
   step_alone ds s t es again stand all (drops a b bytes rest s' is) = broken_alone (adjacency a b) (after_pop a b (with_rest a b rest s)) ds (tt, all)
+  step_alone ds s t es again stand all _ = (tt, all)
 
   abbrev Both : Transcript → Plant → Type 0
   Both ds s = AreReadAgain c ds → Stand c n ds s × AllSo ds

@@ -45,12 +45,7 @@ IsFairDeed (Takes at p m os) = IsFair p m os
 IsFairDeed (Says at o) = (q : Peer) (x : ℕ) → answers_to q x (o ∷ []) ≡ 0
 IsFairDeed (Downs at p os) = AtMostOne os
 IsFairDeed (Solves at k os keys) = AtMostOne os
-IsFairDeed (Loads at g) = Unit {0}
-IsFairDeed (Pops a b) = Unit {0}
-IsFairDeed (Ups at p) = Unit {0}
-IsFairDeed (Clears a b) = Unit {0}
-IsFairDeed (Expires now) = Unit {0}
-IsFairDeed (Hands i bytes) = Unit {0}
+IsFairDeed _ = Unit {0}
 
 -- ---- pending requests are in order in every state
 
@@ -106,12 +101,9 @@ module _ (c : Codec) (n : NetworkParts) where
       let r = commit c (place n d) (k, x.held) x.down s.clock (λ b. b.segment) (job_found x.rows.source_known x.rows.target_known x.rows.best) (s.elements d) in
       let once = counting.commit_once Pin Segment c (place n d) (k, x.held) x.down s.clock (λ b. b.segment) x.rows.source_known x.rows.target_known x.rows.best (s.elements d) (order.elements d) in
       (sent_order d r.outputs (with_element Pin Segment c n open_of d r.element s) (with_one d r.element s once.0 order), once.1)
-  does_keep s t e (pops a b rest s') order = (record { elements = order.elements; parent = order.parent }, tt)
   does_keep s t e (hands_out i bytes s') order = (order, tt)
   does_keep s t e (says_own at p o s') order = (sent_order at (record { to = p; message = own_message o } ∷ []) s order, own_none p o)
-  does_keep s t e (clears_link x s') order = (record { elements = order.elements; parent = order.parent }, tt)
-  does_keep s t e (expires_at now s') order = (record { elements = order.elements; parent = order.parent }, tt)
-  does_keep s t e (loads_rows d g s') order = (record { elements = order.elements; parent = order.parent }, tt)
+  does_keep s t e _ order = (record { elements = order.elements; parent = order.parent }, tt)
 
   pub run_kept : (es : List Entry) (s : Plant) → Run c n es s → InOrder s × Each IsFairDeed (deeds_of c n es)
   run_kept =

@@ -117,15 +117,7 @@ message_tells c at (messages.Other kind) os = Unit {0}
 
 abbrev pub DeedTells : Codec → Deed Segment → Type 0
 DeedTells c (Takes at p m os) = message_tells c at m os
-DeedTells c (Says at o) = Unit {0}
-DeedTells c (Downs at p os) = Unit {0}
-DeedTells c (Solves at k os keys) = Unit {0}
-DeedTells c (Loads at g) = Unit {0}
-DeedTells c (Pops a b) = Unit {0}
-DeedTells c (Ups at p) = Unit {0}
-DeedTells c (Clears a b) = Unit {0}
-DeedTells c (Expires now) = Unit {0}
-DeedTells c (Hands i bytes) = Unit {0}
+DeedTells c _ = Unit {0}
 
 module _ (c : Codec) (n : NetworkParts) where
   element_tells : (at : As) (p : Peer) (m : Message) (s : State Pin Segment) → message_tells c at m (take c open_of (place n at) (s.current at) p (class_of n p) s.clock m (s.elements at)).outputs
@@ -159,18 +151,7 @@ module _ (c : Codec) (n : NetworkParts) where
   does_tell : (s t : State Pin Segment) (e : PlantDeed) → Does c n s e t → DeedTells c e
   does_tell s t e (takes_above at p m s' up) = subst (λ (z : As). message_tells c z m (parent.take c (family n) p m s.parent).outputs) (sym (same_as_is at parent_as up)) (parent_tells p m s.parent)
   does_tell s t e (takes_below at p m s' low heard) = element_tells at p m s
-  does_tell s t e (downs_above at p s' up) = tt
-  does_tell s t e (downs_below at p s' low) = tt
-  does_tell s t e (ups_above at p s' up) = tt
-  does_tell s t e (ups_below at p s' low) = tt
-  does_tell s t e (solves_above k h s' x) = tt
-  does_tell s t e (solves_below d k h s' x) = tt
-  does_tell s t e (pops a b rest s') = tt
-  does_tell s t e (hands_out i bytes s') = tt
-  does_tell s t e (says_own at p o s') = tt
-  does_tell s t e (clears_link x s') = tt
-  does_tell s t e (expires_at now s') = tt
-  does_tell s t e (loads_rows d g s') = tt
+  does_tell s t e _ = tt
 
   pub run_tells : (es : List Entry) (s : Plant) → Run c n es s → Each (DeedTells c) (deeds_of c n es)
   run_tells = run_keeps c n (λ ds s. Each (DeedTells c) ds) (λ ds s t elements above current all. all) (λ ds s t e does all. (does_tell s t e does, all)) tt

@@ -23,15 +23,7 @@ besides_asking p from (messages.Other kind) n = n
 
 abbrev pub besides : Peer → PlantDeed → ℕ → ℕ
 besides p (Takes at from m os) n = besides_asking p from m n
-besides p (Says at o) n = n
-besides p (Downs at q os) n = n
-besides p (Solves at k os keys) n = n
-besides p (Loads at g) n = n
-besides p (Pops a b) n = n
-besides p (Ups at q) n = n
-besides p (Clears a b) n = n
-besides p (Expires now) n = n
-besides p (Hands i bytes) n = n
+besides p _ n = n
 
 abbrev pub answers_in : As → Peer → ℕ → PlantDeed → ℕ
 answers_in d p x e = besides p e (answers_to p x (outputs_at d e))

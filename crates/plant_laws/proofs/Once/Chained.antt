@@ -29,12 +29,7 @@ deed_terse a b real (Takes at p m os) spare single = cond_terse at a b os (λ is
 deed_terse a b real (Downs at p os) spare single = cond_terse at a b os (λ is. inl (spare (subst (λ (d : As). d ≢ parent_as) (sym is) real)))
 deed_terse a b real (Solves at k os keys) spare single = cond_terse at a b os (λ is. inr (subst (λ (l : List Output). length l ≤ 1) (sym spare.1) (omega arith)))
 deed_terse a b real (Says at o) spare single = cond_terse at a b (o ∷ []) (λ is. inr (omega arith))
-deed_terse a b real (Loads at g) spare single = none_terse b
-deed_terse a b real (Pops from to) spare single = none_terse b
-deed_terse a b real (Ups at p) spare single = none_terse b
-deed_terse a b real (Clears one other) spare single = none_terse b
-deed_terse a b real (Expires now) spare single = none_terse b
-deed_terse a b real (Hands i bytes) spare single = none_terse b
+deed_terse a b real _ spare single = none_terse b
 
 all_terse : (a b : As) → a ≢ parent_as → (now : Transcript) → Each IsSparing now → AreSingle now → AreTerse a b now
 all_terse a b real [] spare single = tt

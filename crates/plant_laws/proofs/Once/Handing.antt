@@ -55,14 +55,7 @@ In-cond false x xs ys f h = h
 pub In-left : {A : Type 0} (e : Deed Segment) (a b : As) (x : A) (xs : List A) → In x (left_of e a b xs) → In x xs
 In-left (Pops from to) a b x xs h = In-cond (same_as from a) x (cond (same_as to b) (tail_of xs) xs) xs (In-cond (same_as to b) x (tail_of xs) xs (In-tail x xs)) h
 In-left (Clears one other) a b x xs h = In-cond (same_link one other a b) x [] xs (λ none. absurd none) h
-In-left (Loads at g) a b x xs h = h
-In-left (Takes at p m os) a b x xs h = h
-In-left (Says at o) a b x xs h = h
-In-left (Ups at p) a b x xs h = h
-In-left (Downs at p os) a b x xs h = h
-In-left (Solves at k os keys) a b x xs h = h
-In-left (Expires now) a b x xs h = h
-In-left (Hands i bytes) a b x xs h = h
+In-left _ a b x xs h = h
 
 -- no two requests of the list were put there in one moment
 abbrev pub AreApart : List Standing → Type 0
@@ -101,14 +94,7 @@ apart_cond false xs ys h g = g
 apart_left : (e : Deed Segment) (a b : As) (ss : List Standing) → AreApart ss → AreApart (left_of e a b ss)
 apart_left (Pops from to) a b ss h = apart_cond (same_as from a) (cond (same_as to b) (tail_of ss) ss) ss (apart_cond (same_as to b) (tail_of ss) ss (apart_tail ss h) h) h
 apart_left (Clears one other) a b ss h = apart_cond (same_link one other a b) [] ss tt h
-apart_left (Loads at g) a b ss h = h
-apart_left (Takes at p m os) a b ss h = h
-apart_left (Says at o) a b ss h = h
-apart_left (Ups at p) a b ss h = h
-apart_left (Downs at p os) a b ss h = h
-apart_left (Solves at k os keys) a b ss h = h
-apart_left (Expires now) a b ss h = h
-apart_left (Hands i bytes) a b ss h = h
+apart_left _ a b ss h = h
 
 apart_append : (xs ys : List Standing) → AreApart xs → AreApart ys → ((x y : Standing) → In x xs → In y ys → y.put ≡ x.put → ⊥) → AreApart (xs ++ ys)
 apart_append [] ys h g clash = g

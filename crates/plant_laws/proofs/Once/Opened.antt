@@ -47,15 +47,7 @@ matches_moved Good New key Begins (Some v) (Some u) (Some at) m fresh moves held
 -- every message of requests that was taken had one
 abbrev pub single_deed : {S : Type 0} → Deed S → Type 0
 single_deed (Takes at p m os) = IsSingle m
-single_deed (Loads at g) = Unit {0}
-single_deed (Pops a b) = Unit {0}
-single_deed (Says at o) = Unit {0}
-single_deed (Ups at p) = Unit {0}
-single_deed (Downs at p os) = Unit {0}
-single_deed (Clears a b) = Unit {0}
-single_deed (Solves at k os keys) = Unit {0}
-single_deed (Expires now) = Unit {0}
-single_deed (Hands i bytes) = Unit {0}
+single_deed _ = Unit {0}
 
 abbrev pub AreSingle : Transcript → Type 0
 AreSingle [] = Unit {0}

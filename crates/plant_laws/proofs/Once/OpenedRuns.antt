@@ -194,14 +194,11 @@ module _ (c : Codec) (n : NetworkParts) where
       (λ d'. (s.elements d').pending) (λ d'. (v.elements d').pending) s.parent.pending s.current x.upper (λ d' q y. refl) (λ d'. set_pending c n d d' r.element s) (λ d'. refl) (λ d'. refl) (λ q y u h'. absurd h')
       (ended_asked lower.core Never (s.elements d).pending r.element.pending nobody r.outputs (λ key. ends_if (answers_to key.peer key.id r.outputs))
       (lower.commit_step Pin Segment c (place n d) (k, x.held) x.down s.clock (λ b. b.segment) x.rows.source_known x.rows.target_known x.rows.best (s.elements d) (held.elements d) (lookup_in k (s.elements d).pending.rows x.held x.is_held)) (λ key. refl)) held)
-  does_hold ds s t e (ups_above at p s' up) one held = quiet e ds s t (λ d q x. refl) (λ d. refl) refl refl (λ d. refl) (λ d. refl) held
   does_hold ds s t e (ups_below at p s' low) one held = quiet e ds s t (λ d q x. refl) (still_pending at (upped p (s.elements at)) s refl) refl refl (λ d. refl) (λ d. refl) held
-  does_hold ds s t e (pops a b rest s') one held = quiet e ds s t (λ d q x. refl) (λ d. refl) refl refl (λ d. refl) (λ d. refl) held
-  does_hold ds s t e (hands_out i bytes s') one held = quiet e ds s t (λ d q x. refl) (λ d. refl) refl refl (λ d. refl) (λ d. refl) held
   does_hold ds s t e (says_own at p o s') one held = good_puts (e ∷ ds) at (record { to = p; message = own_message o } ∷ []) s (quiet e ds s s (λ d q x. refl) (λ d. refl) refl refl (λ d. refl) (λ d. refl) held)
   does_hold ds s t e (clears_link x s') one held = quiet e ds s t (λ d q x. refl) (λ d. refl) refl refl (λ d. refl) (λ d. refl) held
-  does_hold ds s t e (expires_at now s') one held = quiet e ds s t (λ d q x. refl) (λ d. refl) refl refl (λ d. refl) (λ d. refl) held
   does_hold ds s t e (loads_rows d g s') one held = loaded_holds d g ds s held
+  does_hold ds s t e _ one held = quiet e ds s t (λ d q x. refl) (λ d. refl) refl refl (λ d. refl) (λ d. refl) held
 
   pub empty_pending : {T : Type 0} (limit : ℕ) → ArePending {T = T} (record { limit = limit; given = 0; rows = [] })
   empty_pending limit = record { few = omega arith; last = omega arith; numbers = omega arith; names = tt }

@@ -199,12 +199,7 @@ AsksFor c n (Takes at p m os) = same_as at parent_as ≡ false → (o : Output) 
 AsksFor c n (Says at o) = IsAsk o.message → ⊥
 AsksFor c n (Downs at p os) = same_as at parent_as ≡ false → NoneAsks os
 AsksFor c n (Solves at k os keys) = same_as at parent_as ≡ false → NoneAsks os
-AsksFor c n (Loads at g) = Unit {0}
-AsksFor c n (Pops a b) = Unit {0}
-AsksFor c n (Ups at p) = Unit {0}
-AsksFor c n (Clears a b) = Unit {0}
-AsksFor c n (Expires now) = Unit {0}
-AsksFor c n (Hands i bytes) = Unit {0}
+AsksFor c n _ = Unit {0}
 
 abbrev pub SaysAbove : Codec → Deed Segment → Type 0
 SaysAbove c e = (p : Peer) (r : Reply) (paths : List PathRow) → OneTold p r (outputs_at parent_as e) → Tells r.answer paths → OfSolve parent_as e ⊎ OfKey c parent_as p r e
@@ -304,12 +299,8 @@ module _ (c : Codec) (n : NetworkParts) where
   does_have s t e (solves_below d k h s' x) one =
       let r = commit c (place n d) (k, x.held) x.down s.clock (λ b. b.segment) (job_found x.rows.source_known x.rows.target_known x.rows.best) (s.elements d) in
       ((λ low. (calm_commit Pin Segment c (place n d) (k, x.held) x.down s.clock (λ b. b.segment) x.rows.source_known x.rows.target_known x.rows.best (s.elements d)).none), solved_says d k r.outputs r.element.keys.issued)
-  does_have s t e (pops a b rest s') one = (tt, no_output e refl)
-  does_have s t e (hands_out i bytes s') one = (tt, no_output e refl)
   does_have s t e (says_own at p o s') one = (own_none o, says_silent at p o)
-  does_have s t e (clears_link x s') one = (tt, no_output e refl)
-  does_have s t e (expires_at now s') one = (tt, no_output e refl)
-  does_have s t e (loads_rows d g s') one = (tt, no_output e refl)
+  does_have s t e _ one = (tt, no_output e refl)
 
   pub run_has : (es : List Entry) (s : Plant) → Run c n es s → AreSingle (deeds_of c n es) → Each (HasCause c n) (deeds_of c n es)
   run_has = run_singles c n (λ ds s. Each (HasCause c n) ds) (λ ds s t elements above current all. all) (λ ds s t e does one all. (does_have s t e does one, all)) (λ single. tt)

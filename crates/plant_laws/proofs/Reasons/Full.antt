@@ -524,15 +524,7 @@ module _ (p : Peer) (x flags : ℕ) where
   -- the first messages are no notices
   opening_none : {X : Type 0} (d : As) (deed : PlantDeed) → IsOpening deed → In out (outputs_at d deed) → X
   opening_none d (Says at o) is i = not_said o.to o.message (ap is_ntf is) (at_here d out at (o ∷ []) i).1
-  opening_none d (Loads at g) is i = absurd is
-  opening_none d (Pops a b) is i = absurd is
-  opening_none d (Takes at q m os) is i = absurd is
-  opening_none d (Ups at q) is i = absurd is
-  opening_none d (Downs at q os) is i = absurd is
-  opening_none d (Clears a b) is i = absurd is
-  opening_none d (Solves at k os keys) is i = absurd is
-  opening_none d (Expires t) is i = absurd is
-  opening_none d (Hands j bytes) is i = absurd is
+  opening_none d _ is i = absurd is
 
 module _ (c : Codec) (codec : IsCodec c) (n : NetworkParts) (net : IsNetwork n) (es : List Entry) (s : Plant) (run : Run c n es s) (written : AllSent IsWritten (deeds_of c n es)) (short : IsShort (deeds_of c n es)) where
   abbrev Before : Transcript → Type 0

@@ -143,12 +143,7 @@ deed_few a b (Takes at p m os) = put_at b (same_as at a) os
 deed_few a b (Says at o) = put_at b (same_as at a) (o ∷ [])
 deed_few a b (Downs at p os) = put_at b (same_as at a) os
 deed_few a b (Solves at k os keys) = put_at b (same_as at a) os
-deed_few a b (Loads at g) = omega arith
-deed_few a b (Pops x y) = omega arith
-deed_few a b (Ups at p) = omega arith
-deed_few a b (Clears x y) = omega arith
-deed_few a b (Expires t) = omega arith
-deed_few a b (Hands i bytes) = omega arith
+deed_few a b _ = omega arith
 
 asks_few : (a b : As) (ds : Transcript) → asks a b ds ≤ count ds
 asks_few a b [] = omega arith
@@ -272,12 +267,7 @@ put_by a b (Takes at p x os) m strange i = at_it a b at os m strange i
 put_by a b (Says at o) m strange i = at_it a b at (o ∷ []) m strange i
 put_by a b (Downs at p os) m strange i = at_it a b at os m strange i
 put_by a b (Solves at k os keys) m strange i = at_it a b at os m strange i
-put_by a b (Loads at g) m strange i = absurd i
-put_by a b (Pops x y) m strange i = absurd i
-put_by a b (Ups at p) m strange i = absurd i
-put_by a b (Clears x y) m strange i = absurd i
-put_by a b (Expires t) m strange i = absurd i
-put_by a b (Hands j bytes) m strange i = absurd i
+put_by a b _ m strange i = absurd i
 
 stood_by : (a b : As) (ds : Transcript) (x : Standing) → is_pair a b ≡ false → In x (standing a b ds) → any astray ds ≡ true
 stood_by a b [] x strange none = absurd none

@@ -277,15 +277,7 @@ module _ (c : Codec) (codec : IsCodec c) (n : NetworkParts) (net : IsNetwork n) 
 
   opening_keeps : {X : Type 0} (deed : PlantDeed) → IsOpening deed → effect c d p x deed ≡ Ends → X
   opening_keeps (Says at o) is ends = keeps_never ends
-  opening_keeps (Loads at g) is ends = absurd is
-  opening_keeps (Pops a b) is ends = absurd is
-  opening_keeps (Takes at q m os) is ends = absurd is
-  opening_keeps (Ups at q) is ends = absurd is
-  opening_keeps (Downs at q os) is ends = absurd is
-  opening_keeps (Clears a b) is ends = absurd is
-  opening_keeps (Solves at k os keys) is ends = absurd is
-  opening_keeps (Expires now) is ends = absurd is
-  opening_keeps (Hands j bytes) is ends = absurd is
+  opening_keeps _ is ends = absurd is
 
 -- tells of paths or does not
 told_or_not : (a : Answer) → TellsOfPaths a ⊎ (¬ TellsOfPaths a)

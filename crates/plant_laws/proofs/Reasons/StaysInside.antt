@@ -49,12 +49,7 @@ module _ (c : Codec) (n : NetworkParts) (downs : StaysInside n) (d : As) (real :
       go (inr none) = none
   by_deed (Downs at q os) cause j = (let h = at_here d out at os j in none_in os (cause (low at h.0)) out h.1 ask)
   by_deed (Solves at k os keys) cause j = (let h = at_here d out at os j in none_in os (cause (low at h.0)) out h.1 ask)
-  by_deed (Loads at g) cause j = absurd j
-  by_deed (Pops a b) cause j = absurd j
-  by_deed (Ups at q) cause j = absurd j
-  by_deed (Clears a b) cause j = absurd j
-  by_deed (Expires t) cause j = absurd j
-  by_deed (Hands k bytes) cause j = absurd j
+  by_deed _ cause j = absurd j
 
 pub none_go_out : InRuns NoneGoOutIn
 none_go_out c codec n net es s run downs d p x i y older real within went =

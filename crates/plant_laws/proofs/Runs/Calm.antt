@@ -20,16 +20,10 @@ use Rattle.plant_laws.proofs.Runs.Shape.{has_pass, shape}
 
 -- a deed that is no message taken, no solve and no tick
 abbrev pub is_plain : PlantDeed → Bool
-is_plain (Loads at g) = true
-is_plain (Pops a b) = true
 is_plain (Takes at from m os) = false
-is_plain (Says at o) = true
-is_plain (Ups at p) = true
-is_plain (Downs at p os) = true
-is_plain (Clears a b) = true
 is_plain (Solves at k os keys) = false
 is_plain (Expires now) = false
-is_plain (Hands i bytes) = true
+is_plain _ = true
 
 abbrev pub Plain : List PlantDeed → Type 0
 Plain [] = Unit {0}

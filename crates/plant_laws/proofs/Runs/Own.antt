@@ -14,15 +14,7 @@ use Rattle.plant_laws.proofs.Runs.Induction.{run_holds}
 
 abbrev pub IsOwn : PlantDeed → Type 0
 IsOwn (Loads at g) = g.own ≡ at
-IsOwn (Solves at k os keys) = Unit {0}
-IsOwn (Pops a b) = Unit {0}
-IsOwn (Takes at from m os) = Unit {0}
-IsOwn (Says at o) = Unit {0}
-IsOwn (Ups at p) = Unit {0}
-IsOwn (Downs at p os) = Unit {0}
-IsOwn (Clears a b) = Unit {0}
-IsOwn (Expires now) = Unit {0}
-IsOwn (Hands i bytes) = Unit {0}
+IsOwn _ = Unit {0}
 
 abbrev pub AreOwn : Transcript → Type 0
 AreOwn [] = Unit {0}
@@ -66,13 +58,9 @@ module _ (c : Codec) (n : NetworkParts) where
   act_own ds s t es h (rests s' t' same) = h
   act_own ds s t es h (hears i bytes m s' read) = own_pick ds (same_as (element_of n i) parent_as) _ _ (tt, h) (tt, h)
   act_own ds s t es h (carries a b bytes rest m s' u is read same) = own_pick ds (same_as b parent_as) _ _ (tt, (tt, h)) (tt, (tt, h))
-  act_own ds s t es h (nods a b bytes rest s' is) = (tt, h)
-  act_own ds s t es h (hands i bytes s' t' same) = (tt, h)
   act_own ds s t es h (rises at p s') = own_pick ds (same_as at parent_as) _ _ (tt, h) (tt, h)
   act_own ds s t es h (falls at p s') = own_pick ds (same_as at parent_as) _ _ (tt, h) (tt, h)
-  act_own ds s t es h (says at p o s') = (tt, h)
-  act_own ds s t es h (clears x s') = (tt, h)
-  act_own ds s t es h (expires now s') = (tt, h)
+  act_own ds s t es h _ = (tt, h)
 
   solve_own : (ds : Transcript) (s : Plant) (d : As) (k : ℕ) (h : Happened) → Own ds s → ElementSolves c n d k s h → Own (h.deeds ++ ds) h.state
   solve_own ds s d k h held x = subst (λ (z : Happened). AreOwn (z.deeds ++ ds)) (sym x.is) (tt, held)

@@ -24,15 +24,7 @@ use Rattle.plant_laws.proofs.Runs.Decompose.{nil_right, begin_adjacency_on, open
 -- deeds that are no solves
 abbrev pub IsPlain : PlantDeed → Type 0
 IsPlain (Solves at k os keys) = ⊥
-IsPlain (Loads at g) = Unit {0}
-IsPlain (Pops a b) = Unit {0}
-IsPlain (Takes at from m os) = Unit {0}
-IsPlain (Says at o) = Unit {0}
-IsPlain (Ups at p) = Unit {0}
-IsPlain (Downs at p os) = Unit {0}
-IsPlain (Clears a b) = Unit {0}
-IsPlain (Expires now) = Unit {0}
-IsPlain (Hands i bytes) = Unit {0}
+IsPlain _ = Unit {0}
 
 abbrev pub ArePlain : Transcript → Type 0
 ArePlain [] = Unit {0}
@@ -63,13 +55,9 @@ module _ (c : Codec) (n : NetworkParts) where
   act_plain s t es (rests s' t' same) = tt
   act_plain s t es (hears i bytes m s' read) = plain_pick (same_as (element_of n i) parent_as) _ _ (tt, tt) (tt, tt)
   act_plain s t es (carries a b bytes rest m s' u is read same) = plain_pick (same_as b parent_as) _ _ (tt, (tt, tt)) (tt, (tt, tt))
-  act_plain s t es (nods a b bytes rest s' is) = (tt, tt)
-  act_plain s t es (hands i bytes s' t' same) = (tt, tt)
   act_plain s t es (rises at p s') = plain_pick (same_as at parent_as) _ _ (tt, tt) (tt, tt)
   act_plain s t es (falls at p s') = plain_pick (same_as at parent_as) _ _ (tt, tt) (tt, tt)
-  act_plain s t es (says at p o s') = (tt, tt)
-  act_plain s t es (clears x s') = (tt, tt)
-  act_plain s t es (expires now s') = (tt, tt)
+  act_plain s t es _ = (tt, tt)
 
   pub goes_plain : (s t : Plant) (es : Transcript) → Goes Pin Segment c n open_of s es t → ArePlain es
   goes_plain s t es (stands s') = tt

@@ -33,20 +33,9 @@ module _ (c : Codec) (n : NetworkParts) where
   fallen_within (f ∷ ds) all e older (inr within) = fallen_within ds all.1 e older within
 
   does_fallen : (s t : Plant) (ds : Transcript) (e : PlantDeed) → Does c n s e t → single_deed e → Both c n ds s → IsFallen e ds
-  does_fallen s t ds e (takes_above at p m s' up) one both = tt
-  does_fallen s t ds e (takes_below at p m s' low heard) one both = tt
   does_fallen s t ds e (downs_above at p s' up) one both = λ low. absurd (let clash : true ≡ false = sym up ∙ low in cc)
   does_fallen s t ds e (downs_below at p s' low) one both = λ low'. ((s.elements at).pending.rows, lost_on p (s.elements at).pending.rows, λ h i. both.1.0 at h i)
-  does_fallen s t ds e (ups_above at p s' up) one both = tt
-  does_fallen s t ds e (ups_below at p s' low) one both = tt
-  does_fallen s t ds e (solves_above k h s' x) one both = tt
-  does_fallen s t ds e (solves_below d k h s' x) one both = tt
-  does_fallen s t ds e (pops a b rest s') one both = tt
-  does_fallen s t ds e (hands_out i bytes s') one both = tt
-  does_fallen s t ds e (says_own at p o s') one both = tt
-  does_fallen s t ds e (clears_link x s') one both = tt
-  does_fallen s t ds e (expires_at now s') one both = tt
-  does_fallen s t ds e (loads_rows d g s') one both = tt
+  does_fallen s t ds e _ one both = tt
 
   abbrev All : Transcript → Plant → Type 0
   All ds s = Both c n ds s × AreFallen ds

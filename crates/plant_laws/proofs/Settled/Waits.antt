@@ -229,12 +229,9 @@ module _ (c : Codec) (n : NetworkParts) where
       let r = commit c (place n d) (k, x.held) x.down s.clock (λ b. b.segment) (job_found x.rows.source_known x.rows.target_known x.rows.best) (s.elements d) in
       come e d r.element s t (puts_elements c n d r.outputs (with_element Pin Segment c n open_of d r.element s))
       (x.held.key, (λ g i. inl (commit_subs Pin Segment c (place n d) (k, x.held) x.down s.clock (λ b. b.segment) x.rows.source_known x.rows.target_known x.rows.best (s.elements d) g i)))
-  comes_of s t ds e (pops a b rest s') one held = stay e s t (λ d. refl)
-  comes_of s t ds e (hands_out i bytes s') one held = stay e s t (λ d. refl)
   comes_of s t ds e (says_own at p o s') one held = as_before e s t (puts_elements c n at (record { to = p; message = own_message o } ∷ []) s)
-  comes_of s t ds e (clears_link x s') one held = stay e s t (λ d. refl)
-  comes_of s t ds e (expires_at now s') one held = stay e s t (λ d. refl)
   comes_of s t ds e (loads_rows d g s') one held = stay e s t (λ d'. refl)
+  comes_of s t ds e _ one held = stay e s t (λ d. refl)
 
   pub both_same : (ds : Transcript) (s t : Core) → t.elements ≡ s.elements → t.parent ≡ s.parent → t.current ≡ s.current → Both ds s → Both ds t
   both_same ds s t elements above current both = (holds_same c n ds s t elements above current both.0, sent_same ds s t elements both.1)

@@ -38,12 +38,7 @@ deed_read c codec (Takes at p m os) h a b = cond_read c codec b (same_as at a) o
 deed_read c codec (Says at o) h a b = cond_read c codec b (same_as at a) (o ∷ []) h
 deed_read c codec (Downs at p os) h a b = cond_read c codec b (same_as at a) os h
 deed_read c codec (Solves at k os keys) h a b = cond_read c codec b (same_as at a) os h
-deed_read c codec (Loads at g) h a b = tt
-deed_read c codec (Pops from to) h a b = tt
-deed_read c codec (Ups at p) h a b = tt
-deed_read c codec (Clears one other) h a b = tt
-deed_read c codec (Expires now) h a b = tt
-deed_read c codec (Hands i bytes) h a b = tt
+deed_read c codec _ h a b = tt
 
 pub all_read : (c : Codec) → IsCodec c → (ds : Transcript) → AllSent IsWritten ds → AreReadAgain c ds
 all_read c codec [] h = tt

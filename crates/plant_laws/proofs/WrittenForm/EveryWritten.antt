@@ -31,15 +31,7 @@ use Rattle.plant_laws.proofs.WrittenForm.WhereWritten.{OfRuns, Written, WrittenI
 -- deeds that solve nothing
 plain_one : (e : PlantDeed) → IsPlain e → SolveSends IsWritten e
 plain_one (Solves at k os keys) none = absurd none
-plain_one (Loads at g) none = tt
-plain_one (Pops a b) none = tt
-plain_one (Takes at from m os) none = tt
-plain_one (Says at o) none = tt
-plain_one (Ups at p) none = tt
-plain_one (Downs at p os) none = tt
-plain_one (Clears a b) none = tt
-plain_one (Expires now) none = tt
-plain_one (Hands i bytes) none = tt
+plain_one _ none = tt
 
 plain_solves : (es : Transcript) → ArePlain es → SolvesSend IsWritten es
 plain_solves [] plain = tt

@@ -104,14 +104,7 @@ in_cond false x xs ys zs f g h = g h
 pub in_left : {A : Type 0} (d : PlantDeed) (a b : As) (x : A) (xs : List A) → In x (left_of d a b xs) → In x xs
 in_left (Pops from to) a b x xs h = in_cond (same_as from a) x (cond (same_as to b) (tail_of xs) xs) xs xs (in_cond (same_as to b) x (tail_of xs) xs xs (in_tail x xs) (λ h. h)) (λ h. h) h
 in_left (Clears one other) a b x xs h = in_cond (same_link one other a b) x [] xs xs (λ h. absurd h) (λ h. h) h
-in_left (Loads at g) a b x xs h = h
-in_left (Takes at p m os) a b x xs h = h
-in_left (Says at o) a b x xs h = h
-in_left (Ups at p) a b x xs h = h
-in_left (Downs at p os) a b x xs h = h
-in_left (Solves at k os keys) a b x xs h = h
-in_left (Expires now) a b x xs h = h
-in_left (Hands i bytes) a b x xs h = h
+in_left _ a b x xs h = h
 
 pub in_standing_of : (m : Transcript) (x : Standing) (ms : List Message) → In x (standing_of m ms) → (x.put ≡ m) × In x.message ms
 in_standing_of m x [] h = absurd h
@@ -225,13 +218,9 @@ module _ (c : Codec) (n : NetworkParts) (codec : IsCodec c) where
   act_read ds s t es held (carries a b bytes rest m s' u is read same) =
       let x = give_shape b (Inner a) m u (Pops a b ∷ []) in
       subst (λ (l : Transcript). IfRead (l ++ ds)) (sym x.1) (λ sent. (front a b bytes rest m s ds held.0 sent.1.1 is read, (tt, held.1 sent.1.1)))
-  act_read ds s t es held (nods a b bytes rest s' is) = λ sent. (tt, held.1 sent.1)
-  act_read ds s t es held (hands i bytes s' t' same) = λ sent. (tt, held.1 sent.1)
   act_read ds s t es held (rises at p s') = subst (λ (l : Transcript). IfRead (l ++ ds)) (sym (rise_shape at p s)) (λ sent. (tt, held.1 sent.1))
   act_read ds s t es held (falls at p s') = let x = fall_shape at p s in subst (λ (l : Transcript). IfRead (l ++ ds)) (sym x.1) (λ sent. (tt, held.1 sent.1))
-  act_read ds s t es held (says at p o s') = λ sent. (tt, held.1 sent.1)
-  act_read ds s t es held (clears x s') = λ sent. (tt, held.1 sent.1)
-  act_read ds s t es held (expires now s') = λ sent. (tt, held.1 sent.1)
+  act_read ds s t es held _ = λ sent. (tt, held.1 sent.1)
 
   solve_stands : (ds : Transcript) (s : Plant) (d : As) (k : ℕ) (h : Happened) → Stands ds s → ElementSolves c n d k s h → Stands (h.deeds ++ ds) h.state
   solve_stands ds s d k h held x =

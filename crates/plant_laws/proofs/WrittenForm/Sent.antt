@@ -279,16 +279,10 @@ module _ (Q : Message → Type 0) where
       does_send s t e (takes_below at p m s' low heard) = take_outs Pin Segment c open_of (place n at) (s.current at) p (class_of n p) s.clock m (s.elements at)
       does_send s t e (downs_above at p s' up) = given_downed p s.parent
       does_send s t e (downs_below at p s' low) = downed_outs Pin Segment p (s.elements at)
-      does_send s t e (ups_above at p s' up) = tt
-      does_send s t e (ups_below at p s' low) = tt
       does_send s t e (solves_above k h s' x) = given_commit c (k, x.held) x.answer s.parent
       does_send s t e (solves_below d k h s' x) = commit_outs Pin Segment c (place n d) (k, x.held) x.down s.clock (λ b. b.segment) x.rows.source_known x.rows.target_known x.rows.best (s.elements d)
-      does_send s t e (pops a b rest s') = tt
-      does_send s t e (hands_out i bytes s') = tt
       does_send s t e (says_own at p o s') = (owns o, tt)
-      does_send s t e (clears_link x s') = tt
-      does_send s t e (expires_at now s') = tt
-      does_send s t e (loads_rows d g s') = tt
+      does_send s t e _ = tt
 
       pub run_sent : (es : List Entry) (s : Plant) → Run c n es s → AreSent (deeds_of c n es)
       run_sent = run_keeps c n (λ ds s. AreSent ds) (λ ds s t elements above current all. all) (λ ds s t e does all. (does_send s t e does, all)) tt

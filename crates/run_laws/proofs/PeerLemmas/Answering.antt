@@ -60,12 +60,7 @@ sent_by now i (Takes at p t os) older within m h = record { at = at; deed = Take
 sent_by now i (Says at o) older within m h = record { at = at; deed = Says at o; older = older; within = within; sent = own at (o ∷ []) (record { to = Outside i; message = m }) (an_output i (o ∷ []) m h) }
 sent_by now i (Downs at p os) older within m h = record { at = at; deed = Downs at p os; older = older; within = within; sent = own at os (record { to = Outside i; message = m }) (an_output i os m h) }
 sent_by now i (Solves at k os keys) older within m h = record { at = at; deed = Solves at k os keys; older = older; within = within; sent = own at os (record { to = Outside i; message = m }) (an_output i os m h) }
-sent_by now i (Loads at g) older within m h = absurd (contains_none m h)
-sent_by now i (Pops a b) older within m h = absurd (contains_none m h)
-sent_by now i (Ups at p) older within m h = absurd (contains_none m h)
-sent_by now i (Clears a b) older within m h = absurd (contains_none m h)
-sent_by now i (Expires t) older within m h = absurd (contains_none m h)
-sent_by now i (Hands j bytes) older within m h = absurd (contains_none m h)
+sent_by now i _ older within m h = absurd (contains_none m h)
 
 inner : (d : PlantDeed) (ds now : Transcript) → Within (d ∷ ds) now → Within ds now
 inner d ds [] h = let no : d ∷ ds ≡ [] = h in cc

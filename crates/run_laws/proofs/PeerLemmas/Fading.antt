@@ -86,15 +86,7 @@ module _ (c : Codec) (R : ℕ → Bytes → Type 0) where
 
   abbrev pub deed_taken : {S : Type 0} → Deed S → Type 0
   deed_taken (Takes at p m os) = FromPeer p m
-  deed_taken (Loads at g) = Unit {0}
-  deed_taken (Pops a b) = Unit {0}
-  deed_taken (Says at o) = Unit {0}
-  deed_taken (Ups at p) = Unit {0}
-  deed_taken (Downs at p os) = Unit {0}
-  deed_taken (Clears a b) = Unit {0}
-  deed_taken (Solves at k os keys) = Unit {0}
-  deed_taken (Expires now) = Unit {0}
-  deed_taken (Hands i bytes) = Unit {0}
+  deed_taken _ = Unit {0}
 
   abbrev pub AllTaken : {S : Type 0} → List (Deed S) → Type 0
   AllTaken [] = Unit {0}

@@ -406,12 +406,7 @@ module _ (c : Codec) (codec : IsCodec c) (n : NetworkParts) (net : IsNetwork n) 
   deed_again (Says at o) written = all_again (o ∷ []) written
   deed_again (Downs at p os) written = all_again os written
   deed_again (Solves at k os keys) written = all_again os written
-  deed_again (Loads at g) written = tt
-  deed_again (Pops a b) written = tt
-  deed_again (Ups at p) written = tt
-  deed_again (Clears a b) written = tt
-  deed_again (Expires now) written = tt
-  deed_again (Hands i bytes) written = tt
+  deed_again _ written = tt
 
   pub written_again : (ds : List PlantDeed) → AllSent IsWritten ds → Again c n ds
   written_again [] written = tt

@@ -49,12 +49,7 @@ deed_asks (Takes at p m os) = asked_count os
 deed_asks (Says at o) = asked_count (o ∷ [])
 deed_asks (Downs at p os) = asked_count os
 deed_asks (Solves at k os keys) = asked_count os
-deed_asks (Loads at g) = 0
-deed_asks (Pops a b) = 0
-deed_asks (Ups at p) = 0
-deed_asks (Clears a b) = 0
-deed_asks (Expires now) = 0
-deed_asks (Hands i bytes) = 0
+deed_asks _ = 0
 
 abbrev pub all_asks : List PlantDeed → ℕ
 all_asks ds = total deed_asks ds

@@ -47,14 +47,7 @@ use Rattle.run_laws.proofs.SettlingLemmas.WorkLess.{deed_asks, all_asks, combine
 left_one : (d : PlantDeed) → DeedSends IsWritten d → LeftSends IsWritten d
 left_one (Solves at k os keys) written = written
 left_one (Says at o) written = written
-left_one (Takes at p m os) written = tt
-left_one (Downs at p os) written = tt
-left_one (Loads at g) written = tt
-left_one (Pops a b) written = tt
-left_one (Ups at p) written = tt
-left_one (Clears a b) written = tt
-left_one (Expires now) written = tt
-left_one (Hands i bytes) written = tt
+left_one _ written = tt
 
 all_left : (ds : List PlantDeed) → AllSent IsWritten ds → AllLeft IsWritten ds
 all_left [] written = tt
@@ -71,14 +64,7 @@ short_before (e ∷ es) ds h = short_before es ds (λ a b. (let le = h a b in om
 given_work : (e : Event) → IsWork e → IsGiven e
 given_work (event.Carry a b) work = tt
 given_work (event.Solve d k) work = tt
-given_work (event.Load d g) work = absurd work
-given_work (event.Open i holder) work = absurd work
-given_work (event.Shut i) work = absurd work
-given_work (event.Feed i bytes) work = absurd work
-given_work (event.Take i) work = absurd work
-given_work (event.Break a b) work = absurd work
-given_work (event.Tick t) work = absurd work
-given_work (event.Drain i holder) work = absurd work
+given_work _ work = absurd work
 
 -- ---- requests
 
@@ -111,12 +97,7 @@ deed_sends a b (Takes at p m os) = sends_asks b os (same_as at a)
 deed_sends a b (Says at o) = sends_asks b (o ∷ []) (same_as at a)
 deed_sends a b (Downs at p os) = sends_asks b os (same_as at a)
 deed_sends a b (Solves at k os keys) = sends_asks b os (same_as at a)
-deed_sends a b (Loads at g) = omega arith
-deed_sends a b (Pops from to) = omega arith
-deed_sends a b (Ups at p) = omega arith
-deed_sends a b (Clears one other) = omega arith
-deed_sends a b (Expires now) = omega arith
-deed_sends a b (Hands i bytes) = omega arith
+deed_sends a b _ = omega arith
 
 asks_more : (a b : As) (xs ds : List PlantDeed) → asks a b (xs ++ ds) ≤ asks a b ds + all_asks xs
 asks_more a b [] ds = omega arith
