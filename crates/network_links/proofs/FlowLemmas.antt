@@ -8,18 +8,20 @@ use Rattle.plant_text.specs.Names.{same_as}
 use Rattle.plant_model.specs.Names.{set_pair, set_number}
 use Rattle.plant_model.specs.Wire.{Bytes}
 use Rattle.plant_model.specs.State as model
-use Rattle.plant_model.specs.Deeds.{our_offer}
-use Rattle.network_links.specs.Ends.{Sender, begun, own_bytes, with_kept}
+use Rattle.plant_model.specs.Deeds.{on_connection, our_offer, with_more}
+use Rattle.plant_model.specs.Events.{drained}
+use Rattle.network_links.specs.Ends.{Sender, begun, fed_while_up, own_bytes, with_kept}
 use Rattle.network_links.specs.Rooms.{Spends, Frees, queue}
-use Rattle.network_links.specs.Flow.{Flow, Room, SameFlow, set_queue, set_session, set_room, change_access, put_at, put_flow, SpendsAt, Puts, Begins, DropsFirst, Clears, GrowsAt, KeepsRoomAt, Connects}
+use Rattle.network_links.specs.Flow.{Flow, Room, SameFlow, set_queue, set_session, set_room, change_access, put_at, put_flow, SpendsAt, Puts, Begins, DropsFirst, Clears, GrowsAt, KeepsRoomAt, Connects, just_opened}
 use Rattle.network_links.specs.Sides as sides
 use Rattle.network_links.specs.Sides.{Side, Row, set_side, SideChanges, BothSidesChange}
-use Rattle.network_links.specs.Peers as peers
-use Rattle.network_links.specs.Peers.{Guests, SendsGuest, GrowsGuest, FeedsPeer, DrainsPeer, change_guest}
+use Rattle.network_links.specs.Accesses.{ConnectsGuest, DrainsConnection, DrainsGuest, DrainsHeld, FeedsConnection, FeedsGuest, Goes, GrowsGuest, SendsGuest}
+use Rattle.network_links.specs.Peers.{Changes, Guests, guest_at}
 use Rattle.network_links.specs.Happenings.{FeedsIn, FeedsConnectionIn, DrainsIn, DrainsConnectionIn, DrainsHeldIn}
 use Rattle.network_links.specs.declared.peers.Drained.{Drained}
 use Rattle.plant_model.specs.declared.outcome.Refused.{Refused}
 use Rattle.network_links.specs.Carried.{CarriedView, flow_in}
+use Rattle.network_links.proofs.PeerLemmas.{gets, goes, keeps, stays}
 use Rattle.network_links.proofs.SideLemmas.{one_as}
 use Rattle.network_links.proofs.RowLemmas.{pair_field, pair_same}
 
@@ -172,45 +174,52 @@ module _ (a : CarriedView) (i : ℕ) (g : Guests) where
   abbrev with_peers : Guests → Flow
   with_peers h = flow_in (record a { peers = h })
 
-  pub access_changes : (k : model.Connection → model.Connection) → g ≡ change_guest i k a.peers → with_peers g ≡ change_access i k before
-  access_changes k is = ap with_peers is
+  pub access_changes : (k : model.Connection → model.Connection) → Changes i (Goes k) a.peers g → with_peers g ≡ change_access i k before
+  access_changes k h = ap with_peers (goes i a.peers g h.rest k h.does)
 
-  pub outside_connects : (holder : ℕ) (result : Result (Unit {0}) NoMemory) → peers.Connects i holder (record { 0 = a.clock }) a.peers result g → Connects i holder before result (with_peers g)
-  outside_connects holder result h = record { ok = on_ok result (λ is. ap with_peers is) h.ok; room = h.room; err = on_err result (λ is. ap with_peers is) h.err }
+  pub outside_connects : (holder : ℕ) (result : Result (Unit {0}) NoMemory) → Changes i (ConnectsGuest holder (record { 0 = a.clock }) result) a.peers g → Connects i holder before result (with_peers g)
+  outside_connects holder result h = record {
+    ok = on_ok result (λ is. ap with_peers (gets i a.peers g h.rest (just_opened holder (record { 0 = a.clock }) (a.peers.accesses i)) is)) h.does.ok;
+    room = h.does.room;
+    err = on_err result (λ is. ap with_peers (stays i a.peers g h.rest is)) h.does.err;
+  }
 
-  pub outside_reserves : (at : As) (messages bytes : ℕ) (result : Result (Unit {0}) NoMemory) → GrowsGuest i messages bytes a.peers result g →
-      GrowsAt at (Outside i) before (with_peers g) × OnOk result (KeepsRoomAt at (Outside i) messages bytes (with_peers g))
-  outside_reserves at messages bytes result h = (record { same = ap with_peers h.same; room = h.room }, h.ok)
+  pub outside_grows : (at : As) (messages bytes : ℕ) (result : Result (Unit {0}) NoMemory) → Changes i (GrowsGuest messages bytes result) a.peers g → GrowsAt at (Outside i) before (with_peers g)
+  outside_grows at messages bytes result h = record { same = ap with_peers (keeps i a.peers g h.rest h.does.same); room = h.does.room }
 
   pub outside_puts : (at : As) (said : Queued Sent) (message : Bytes) → said.kept ≡ a.said.kept ++ sent_of at (Outside i) message ∷ [] → Spends message a.said.spare said.spare →
-      SendsGuest i message a.peers g → Puts at (Outside i) message before (flow_in (record a { peers = g; said = said }))
+      Changes i (SendsGuest message) a.peers g → Puts at (Outside i) message before (flow_in (record a { peers = g; said = said }))
   outside_puts at said message is_said spends h =
       let now = flow_in (record a { peers = g; said = said }) in
       let room : Room = record before.room { outside = set_number i (g.room i) before.room.outside; said = said.spare } in
       let is : now ≡ record (put_flow at (Outside i) message before) { room = room } =
-      ap (λ (k : Guests). flow_in (record a { peers = k; said = said })) h.kept
+      ap (λ (k : Guests). flow_in (record a { peers = k; said = said })) (gets i a.peers g h.rest (on_connection (with_more message) (a.peers.accesses i)) h.does.kept)
       ∙ ap (λ (s : List Sent). let f : Flow = record (put_at at (Outside i) message before) { said = s; room = room } in f) is_said in
-      record { kept = own_room now (put_flow at (Outside i) message before) room is; room = record { there = h.room; said = spends; elsewhere = ap (λ (f : Flow). f.room) is } }
+      record { kept = own_room now (put_flow at (Outside i) message before) room is; room = record { there = h.does.room; said = spends; elsewhere = ap (λ (f : Flow). f.room) is } }
 
-  pub outside_feeds : (piece : Bytes) (result : Result (Unit {0}) Refused) → FeedsPeer i piece a.peers result g → FeedsIn i piece before result (with_peers g)
-  outside_feeds piece result h = go (a.peers.accesses i).connection h
+  pub outside_feeds : (piece : Bytes) (result : Result (Unit {0}) Refused) → Changes i (FeedsGuest piece result) a.peers g → FeedsIn i piece before result (with_peers g)
+  outside_feeds piece result h = go (a.peers.accesses i).connection h.does
     where
-      go : (o : Option model.Connection) → peers.FeedsConnection i piece o a.peers result g → FeedsConnectionIn i piece o before result (with_peers g)
-      go None does = (does.0, ap with_peers does.1)
-      go (Some x) does = record { ok = on_ok result (λ is. ap with_peers is) does.ok; err = on_err result (λ is. (is.0, ap with_peers is.1)) does.err; over = does.over }
-
-  pub outside_drains : (holder : ℕ) (result : Result Drained Refused) → DrainsPeer i holder a.peers result g → DrainsIn i holder before result (with_peers g)
-  outside_drains holder result h = go (a.peers.accesses i).connection h
-    where
-      held : (x : model.Connection) (b : Bool) → peers.DrainsHeld i b x a.peers result g → DrainsHeldIn i b x before result (with_peers g)
-      held x false does = (does.0, ap with_peers does.1)
-      held x true does = record {
-        bytes = does.bytes;
-        ok = on_ok result (λ is. ap with_peers is) does.ok;
-        room = does.room;
-        err = on_err result (λ is. (is.0, ap with_peers is.1)) does.err;
+      go : (o : Option model.Connection) → FeedsConnection piece o result (guest_at i a.peers) (guest_at i g) → FeedsConnectionIn i piece o before result (with_peers g)
+      go None does = (does.0, ap with_peers (stays i a.peers g h.rest does.1))
+      go (Some x) does = record {
+        ok = on_ok result (λ is. ap with_peers (goes i a.peers g h.rest (fed_while_up piece) is)) does.ok;
+        err = on_err result (λ is. (is.0, ap with_peers (stays i a.peers g h.rest is.1))) does.err;
+        over = does.over;
       }
 
-      go : (o : Option model.Connection) → peers.DrainsConnection i holder o a.peers result g → DrainsConnectionIn i holder o before result (with_peers g)
-      go None does = (does.0, ap with_peers does.1)
+  pub outside_drains : (holder : ℕ) (result : Result Drained Refused) → Changes i (DrainsGuest holder result) a.peers g → DrainsIn i holder before result (with_peers g)
+  outside_drains holder result h = go (a.peers.accesses i).connection h.does
+    where
+      held : (x : model.Connection) (b : Bool) → DrainsHeld b x result (guest_at i a.peers) (guest_at i g) → DrainsHeldIn i b x before result (with_peers g)
+      held x false does = (does.0, ap with_peers (stays i a.peers g h.rest does.1))
+      held x true does = record {
+        bytes = does.bytes;
+        ok = on_ok result (λ is. ap with_peers (gets i a.peers g h.rest (on_connection drained (a.peers.accesses i)) is)) does.ok;
+        room = does.room;
+        err = on_err result (λ is. (is.0, ap with_peers (stays i a.peers g h.rest is.1))) does.err;
+      }
+
+      go : (o : Option model.Connection) → DrainsConnection holder o result (guest_at i a.peers) (guest_at i g) → DrainsConnectionIn i holder o before result (with_peers g)
+      go None does = (does.0, ap with_peers (stays i a.peers g h.rest does.1))
       go (Some x) does = held x (x.holder == holder) does

@@ -1,5 +1,5 @@
 -- What a piece of a stream brings to a connection.
-use Rattle.std.proofs.Common.{◌≡◌, ◌∙◌, ◌++◌, ℕ, List, [], ◌∷◌, Some, Option, Bool, true, false, cond, map, sym, ap, refl, append_assoc}
+use Rattle.std.proofs.Common.{◌≡◌, ◌∙◌, ◌++◌, ℕ, List, [], ◌∷◌, Some, Option, Bool, false, cond, map, sym, ap, refl, append_assoc}
 use Rattle.std.specs.List.{flat_map}
 use Rattle.pcep_framing.specs.Frames.{Framing}
 use Rattle.pcep_framing.specs.Feeding.{feed_of}

@@ -1,5 +1,4 @@
 pub mod PeerLemmas
-pub mod AccessLemmas
 pub mod PlaceLemmas
 pub mod SideLemmas
 pub mod RowLemmas

@@ -1,5 +1,5 @@
 -- What the model has of outside peers, where one of them changes.
-use Rattle.std.proofs.Common.{◌≡◌, ◌≤◌, ◌<◌, ◌==◌, ℕ, zero, suc, Bool, true, false, cond, Option, Some, None, List, [], ◌∷◌, length, set, arith, refl, sym, ◌∙◌, ap}
+use Rattle.std.proofs.Common.{◌≡◌, ◌≤◌, ◌<◌, ◌==◌, ℕ, zero, suc, Bool, true, false, cond, Option, Some, None, List, [], ◌∷◌, length, set, arith, refl, sym, ◌∙◌, ap, subst}
 use mathlib.Core.Path.{fun_ext}
 use Rattle.std.specs.Prelude.{slice_get}
 use Rattle.std.proofs.Math.ListN.{length-set}
@@ -10,9 +10,8 @@ use Rattle.plant_model.specs.Names.{set_number}
 use Rattle.plant_model.specs.State as model
 use Rattle.plant_model.specs.Deeds.{on_connection}
 use Rattle.network_links.specs.declared.access.Access.{Access}
-use Rattle.network_links.specs.Ends.{Connected}
-use Rattle.network_links.specs.Peers.{Guests, guests_of, access_of, access_or, room_of, room_or, set_guest, change_guest}
-use Rattle.network_links.specs.Accesses.{ChangesAt, on_connected}
+use Rattle.network_links.specs.Accesses.{Goes}
+use Rattle.network_links.specs.Peers.{Changes, Guest, Guests, guest_at, guest_of, guests_of, access_of, access_or, nobody, room_or, set_guest, change_guest}
 
 at_same : (i : ℕ) (as' : List Access) (a : Access) → i < length as' → slice_get (set as' i a) i ≡ Some a
 at_same i [] a within = absurd (omega arith)
@@ -43,16 +42,9 @@ number_same i v f is = fun_ext (λ j. go j (i == j) refl)
     go j true at = is ∙ ap f (eqb-true i j at)
     go j false at = refl
 
-pub number_here : {A : Type 0} → (i : ℕ) (v : A) (f : ℕ → A) → set_number i v f i ≡ v
-number_here i v f = go (i == i) refl
-  where
-    go : (b : Bool) → (i == i) ≡ b → cond b v (f i) ≡ v
-    go true at = refl
-    go false at = absurd (eqb-false i i at refl)
-
 -- ---- one peer changes
 
-pub guests_set : (i : ℕ) (as' : List Access) (a : Access) → i < length as' → guests_of (set as' i a) ≡ set_guest i (access_of a) (room_of a.connection) (guests_of as')
+guests_set : (i : ℕ) (as' : List Access) (a : Access) → i < length as' → guests_of (set as' i a) ≡ set_guest i (guest_of a) (guests_of as')
 guests_set i as' a within =
     let old = guests_of as' in
     let new = guests_of (set as' i a) in
@@ -60,46 +52,51 @@ guests_set i as' a within =
     ∙ ap (λ (f : ℕ → model.Access). let g : Guests = record { count = old.count; accesses = f; room = new.room } in g) (numbers_set access_or i as' a within)
     ∙ ap (λ (f : ℕ → Spare). let g : Guests = record { count = old.count; accesses = set_number i (access_of a) old.accesses; room = f } in g) (numbers_set room_or i as' a within)
 
--- one of them changes so, as the model has it
-pub guest_changes : (i : ℕ) (so : Access → Access → Type 0) (old new : List Access) → (h : ChangesAt i so old new) →
-    guests_of new ≡ set_guest i (access_of h.after) (room_of h.after.connection) (guests_of old)
-guest_changes i so old new h = ap guests_of h.is ∙ guests_set i old h.after (slice_get_within old i h.before h.found)
+guest_is : (i : ℕ) (as' : List Access) (o : Option Access) → slice_get as' i ≡ o → guest_at i (guests_of as') ≡ record { access = access_or o; room = room_or o }
+guest_is i as' o is = ap (λ (p : Option Access). let g : Guest = record { access = access_or p; room = room_or p } in g) is
 
-pub guest_here : (i : ℕ) (as' : List Access) (a : Access) → slice_get as' i ≡ Some a → (guests_of as').accesses i ≡ access_of a
-guest_here i as' a at = ap access_or at
+pub guest_changes : (so : Guest → Guest → Type 0) (i : ℕ) (old new : List Access) (a b : Access) → slice_get old i ≡ Some a → new ≡ set old i b → so (guest_of a) (guest_of b) → Changes i so (guests_of old) (guests_of new)
+guest_changes so i old new a b found is does = subst (λ (as' : List Access). Changes i so (guests_of old) (guests_of as')) (sym is) (record {
+  rest = guests_set i old b within ∙ ap (λ (g : Guest). set_guest i g (guests_of old)) (sym now);
+  does = subst (λ (g : Guest). so g (guest_at i (guests_of (set old i b)))) (sym (guest_is i old (Some a) found)) (subst (so (guest_of a)) (sym now) does);
+})
+  where
+    within : i < length old
+    within = slice_get_within old i a found
 
-pub room_here : (i : ℕ) (as' : List Access) (a : Access) → slice_get as' i ≡ Some a → (guests_of as').room i ≡ room_of a.connection
-room_here i as' a at = ap room_or at
+    now : guest_at i (guests_of (set old i b)) ≡ guest_of b
+    now = guest_is i (set old i b) (Some b) (at_same i old b within)
 
-access_on : (g : model.Connection → model.Connection) (opened : ℕ) (o : Option Connected) →
-    access_of (on_connected g (record { opened = opened; connection = o })) ≡ on_connection g (access_of (record { opened = opened; connection = o }))
-access_on g opened None = refl
-access_on g opened (Some x) = refl
+-- ---- what is changed, and what is not
 
-room_on : (g : model.Connection → model.Connection) (opened : ℕ) (o : Option Connected) → room_of (on_connected g (record { opened = opened; connection = o })).connection ≡ room_of o
-room_on g opened None = refl
-room_on g opened (Some x) = refl
-
--- what is set is what the room was
-pub same_room : (i : ℕ) (a : model.Access) (spare : Spare) (g : Guests) → spare ≡ g.room i → set_guest i a spare g ≡ record g { accesses = set_number i a g.accesses }
-same_room i a spare g is = ap (λ (f : ℕ → Spare). let h : Guests = record { count = g.count; accesses = set_number i a g.accesses; room = f } in h) (number_same i spare g.room is)
-
--- a connection changes, if it is open
-pub connection_changes : (g : model.Connection → model.Connection) (i : ℕ) (old new : List Access) → ChangesAt i (λ (x y : Access). y ≡ on_connected g x) old new → guests_of new ≡ change_guest i g (guests_of old)
-connection_changes g i old new h =
-    let from = guests_of old in
-    let is_access : access_of h.after ≡ on_connection g (from.accesses i) =
-    ap access_of h.changes ∙ access_on g h.before.opened h.before.connection ∙ ap (λ (a : model.Access). on_connection g a) (sym (guest_here i old h.before h.found)) in
-    let is_room : room_of h.after.connection ≡ from.room i =
-    ap (λ (a : Access). room_of a.connection) h.changes ∙ room_on g h.before.opened h.before.connection ∙ sym (room_here i old h.before h.found) in
-    guest_changes i (λ (x y : Access). y ≡ on_connected g x) old new h
-    ∙ same_room i (access_of h.after) (room_of h.after.connection) from is_room
-    ∙ ap (λ (a : model.Access). let k : Guests = record from { accesses = set_number i a from.accesses } in k) is_access
+set_same : (i : ℕ) (g : Guests) → g ≡ set_guest i (guest_at i g) g
+set_same i g =
+    sym (ap (λ (f : ℕ → model.Access). let h : Guests = record { count = g.count; accesses = f; room = set_number i (g.room i) g.room } in h) (number_same i (g.accesses i) g.accesses refl)
+    ∙ ap (λ (f : ℕ → Spare). let h : Guests = record g { room = f } in h) (number_same i (g.room i) g.room refl))
 
 -- there is no such peer
-pub no_connection_changes : (g : model.Connection → model.Connection) (i : ℕ) (as' : List Access) → length as' ≤ i → guests_of as' ≡ change_guest i g (guests_of as')
-no_connection_changes g i as' past =
-    let from = guests_of as' in
-    let none : from.accesses i ≡ record { opened = 0; connection = None } = ap access_or (slice_get_past as' i past) in
-    let same : on_connection g (from.accesses i) ≡ from.accesses i = ap (λ (a : model.Access). on_connection g a) none ∙ sym none in
-    ap (λ (f : ℕ → model.Access). let k : Guests = record from { accesses = f } in k) (sym (number_same i (on_connection g (from.accesses i)) from.accesses same))
+pub nobody_changes : (so : Guest → Guest → Type 0) (i : ℕ) (as' : List Access) → length as' ≤ i → so nobody nobody → Changes i so (guests_of as') (guests_of as')
+nobody_changes so i as' past does = record {
+  rest = set_same i (guests_of as');
+  does = subst (λ (g : Guest). so g g) (sym (guest_is i as' None (slice_get_past as' i past))) does;
+}
+
+module _ (i : ℕ) (old new : Guests) (rest : new ≡ set_guest i (guest_at i new) old) where
+  -- it is another, and its room
+  pub gets : (a : model.Access) → new.accesses i ≡ a → new ≡ set_guest i (record { access = a; room = new.room i }) old
+  gets a is = rest ∙ ap (λ (b : model.Access). set_guest i (record { access = b; room = new.room i }) old) is
+
+  -- only its room is another
+  pub keeps : new.accesses i ≡ old.accesses i → new ≡ record old { room = set_number i (new.room i) old.room }
+  keeps is =
+      gets (old.accesses i) is
+      ∙ ap (λ (f : ℕ → model.Access). let g : Guests = record { count = old.count; accesses = f; room = set_number i (new.room i) old.room } in g) (number_same i (old.accesses i) old.accesses refl)
+
+  -- its connection changes, if it is open
+  pub goes : (f : model.Connection → model.Connection) → Goes f (guest_at i old) (guest_at i new) → new ≡ change_guest i f old
+  goes f is =
+      rest ∙ ap (λ (g : Guest). set_guest i g old) is
+      ∙ ap (λ (r : ℕ → Spare). let g : Guests = record { count = old.count; accesses = set_number i (on_connection f (old.accesses i)) old.accesses; room = r } in g) (number_same i (old.room i) old.room refl)
+
+  pub stays : guest_at i new ≡ guest_at i old → new ≡ old
+  stays is = rest ∙ ap (λ (g : Guest). set_guest i g old) is ∙ sym (set_same i old)

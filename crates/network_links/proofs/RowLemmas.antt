@@ -1,7 +1,7 @@
 -- A row of links, where one of them changes at one end or at both.
-use Rattle.std.proofs.Common.{◌≡◌, ℕ, zero, suc, Bool, true, false, cond, Option, Some, None, List, [], ◌∷◌, get_or, set, arith, refl, sym, ◌∙◌, ap, subst, inl, inr}
+use Rattle.std.proofs.Common.{◌≡◌, ℕ, zero, suc, Bool, true, false, cond, Some, None, List, [], ◌∷◌, get_or, set, arith, refl, sym, ◌∙◌, ap, subst, inl, inr}
 use mathlib.Core.Path.{fun_ext}
-use Rattle.std.specs.Prelude.{◌⊎◌, IfSome, slice_get}
+use Rattle.std.specs.Prelude.{◌⊎◌, slice_get}
 use Rattle.std.proofs.lemmas.Option.{get_or_from_slice_get}
 use Rattle.std.proofs.lemmas.Bool.{false≢true}
 use Rattle.plant_model.specs.Types.{As}
@@ -11,7 +11,7 @@ use Rattle.plant_model.specs.Names.{set_pair}
 use Rattle.network_links.specs.declared.link.End.{End}
 use Rattle.network_links.specs.declared.link.End.TheVariants.{Lower, Upper}
 use Rattle.network_links.specs.Links.{Joined, at_end, set_end}
-use Rattle.network_links.specs.Sides.{Side, Row, row_of, set_side, no_side, Empties, link_at, end_of, side_or, side_at, adjacencies_in, IsFirst, IsPlace, ChangesAt, EndChanges, BothChange, SideChanges, BothSidesChange}
+use Rattle.network_links.specs.Sides.{Side, Row, row_of, set_side, no_side, Empties, link_at, end_of, side_or, side_at, adjacencies_in, IsFirst, IsPlace, EndChanges, BothChange, SideChanges, BothSidesChange}
 use Rattle.network_links.proofs.SideLemmas.{one_as, no_way, eqb-refl, in_order, turned, as_is, twice, first_between, first_link, sides_after}
 
 -- ---- maps by two names
@@ -185,75 +185,64 @@ one_side a b i xs x y s first found is = go (same_as a b) refl
         unchanged : at_end (end_of b x.adjacency) y ≡ at_end (end_of b x.adjacency) x
         unchanged = ap (λ (z : Joined). at_end (end_of b x.adjacency) z) is ∙ other_end a b x.adjacency x s (first_between a b i xs x first found) (no_way a b same)
 
-module _ (a b : As) (i : ℕ) (e : End) (so : Side → Side → Type 0) (xs ys : List Joined) (p : IsPlace a b i e xs) where
-  one_found : (x y : Joined) → slice_get xs i ≡ Some x → slice_get xs i ≡ Some y → x ≡ y
-  one_found x y is is' = one (sym is ∙ is')
-    where
-      one : Some x ≡ Some y → x ≡ y
-      one both = cc
+-- a row of which a link is written where it stood
+module _ (a b : As) (i : ℕ) (e : End) (so : Side → Side → Type 0) (xs : List Joined) (y : Joined) (p : IsPlace a b i e xs) where
+  abbrev ys : List Joined
+  ys = set xs i y
 
-  -- a row of which a link changes at one end
-  pub end_changes : ChangesAt i (EndChanges e so) xs ys → SideChanges a b so (row_of xs) (row_of ys)
+  -- it changes at one end
+  end_changes : EndChanges e so p.link y → SideChanges a b so (row_of xs) (row_of ys)
   end_changes h = record { rest = rest; does = does }
     where
-      same : h.before ≡ p.link
-      same = one_found h.before p.link h.found p.found
+      is : y ≡ set_end (end_of a p.link.adjacency) (at_end e y) p.link
+      is = h.rest ∙ ap (λ (f : End). set_end f (at_end e y) p.link) p.end
 
-      is : h.after ≡ set_end (end_of a p.link.adjacency) (at_end e h.after) p.link
-      is = h.changes.rest ∙ ap (λ (f : End). set_end f (at_end e h.after) h.before) p.end ∙ ap (set_end (end_of a p.link.adjacency) (at_end e h.after)) same
+      adjacency : y.adjacency ≡ p.link.adjacency
+      adjacency = ap (λ (z : Joined). z.adjacency) is ∙ set_adjacency (end_of a p.link.adjacency) (at_end e y) p.link
 
-      adjacency : h.after.adjacency ≡ p.link.adjacency
-      adjacency = ap (λ (z : Joined). z.adjacency) is ∙ set_adjacency (end_of a p.link.adjacency) (at_end e h.after) p.link
+      sides : side_at ys ≡ set_pair a b (at_end e y) (side_at xs)
+      sides = one_side a b i xs p.link y (at_end e y) p.first p.found is
 
-      sides : side_at ys ≡ set_pair a b (at_end e h.after) (side_at xs)
-      sides = ap side_at h.is ∙ one_side a b i xs p.link h.after (at_end e h.after) p.first p.found is
-
-      here : side_at ys a b ≡ at_end e h.after
-      here = ap (λ (f : As → As → Side). f a b) sides ∙ pair_here a b (at_end e h.after) (side_at xs)
+      here : side_at ys a b ≡ at_end e y
+      here = ap (λ (f : As → As → Side). f a b) sides ∙ pair_here a b (at_end e y) (side_at xs)
 
       rest : row_of ys ≡ set_side a b (side_at ys a b) (row_of xs)
       rest =
-          ap (λ (ls : List Adjacency). let r : Row = record { adjacencies = ls; sides = side_at ys } in r) (ap adjacencies_in h.is ∙ adjacencies_set i xs p.link h.after p.found adjacency)
+          ap (λ (ls : List Adjacency). let r : Row = record { adjacencies = ls; sides = side_at ys } in r) (adjacencies_set i xs p.link y p.found adjacency)
           ∙ ap (λ (f : As → As → Side). let r : Row = record { adjacencies = adjacencies_in xs; sides = f } in r) (sides ∙ ap (λ (v : Side). set_pair a b v (side_at xs)) (sym here))
 
       does : so (side_at xs a b) (side_at ys a b)
       does =
-          subst (λ (v : Side). so v (side_at ys a b)) (ap (at_end e) same ∙ sym (side_here a b i e xs p))
-          (subst (λ (v : Side). so (at_end e h.before) v) (sym here) h.changes.does)
+          subst (λ (v : Side). so v (side_at ys a b)) (sym (side_here a b i e xs p))
+          (subst (λ (v : Side). so (at_end e p.link) v) (sym here) h.does)
 
-  at_each : (f : End) (v w : Joined) → BothChange so v w → so (at_end f v) (at_end f w)
-  at_each Lower v w h = h.lower
-  at_each Upper v w h = h.upper
+  at_each : (f : End) → BothChange so p.link y → so (at_end f p.link) (at_end f y)
+  at_each Lower h = h.lower
+  at_each Upper h = h.upper
 
-  -- a row of which a link changes at both ends
-  pub link_changes : ChangesAt i (BothChange so) xs ys → BothSidesChange a b so (row_of xs) (row_of ys)
+  -- it changes at both ends
+  link_changes : BothChange so p.link y → BothSidesChange a b so (row_of xs) (row_of ys)
   link_changes h = record { rest = rest; here = does a b e p.end here (side_here a b i e xs p); there = does b a (end_of b p.link.adjacency) refl there' (side_here b a i (end_of b p.link.adjacency) xs (back_place a b i e xs p)) }
     where
-      same : h.before ≡ p.link
-      same = one_found h.before p.link h.found p.found
+      sides : side_at ys ≡ set_pair a b (at_end (end_of a p.link.adjacency) y) (set_pair b a (at_end (end_of b p.link.adjacency) y) (side_at xs))
+      sides = two_sides a b i xs p.link y p.first p.found h.adjacency
 
-      adjacency : h.after.adjacency ≡ p.link.adjacency
-      adjacency = h.changes.adjacency ∙ ap (λ (z : Joined). z.adjacency) same
+      here : side_at ys a b ≡ at_end (end_of a p.link.adjacency) y
+      here = ap (λ (f : As → As → Side). f a b) sides ∙ pair_here a b (at_end (end_of a p.link.adjacency) y) (set_pair b a (at_end (end_of b p.link.adjacency) y) (side_at xs))
 
-      sides : side_at ys ≡ set_pair a b (at_end (end_of a p.link.adjacency) h.after) (set_pair b a (at_end (end_of b p.link.adjacency) h.after) (side_at xs))
-      sides = ap side_at h.is ∙ two_sides a b i xs p.link h.after p.first p.found adjacency
+      there' : side_at ys b a ≡ at_end (end_of b p.link.adjacency) y
+      there' = there a b i xs p.link y p.first p.found h.adjacency b a (inr (refl, refl))
 
-      here : side_at ys a b ≡ at_end (end_of a p.link.adjacency) h.after
-      here = ap (λ (f : As → As → Side). f a b) sides ∙ pair_here a b (at_end (end_of a p.link.adjacency) h.after) (set_pair b a (at_end (end_of b p.link.adjacency) h.after) (side_at xs))
-
-      there' : side_at ys b a ≡ at_end (end_of b p.link.adjacency) h.after
-      there' = ap (λ (zs : List Joined). side_at zs b a) h.is ∙ there a b i xs p.link h.after p.first p.found adjacency b a (inr (refl, refl))
-
-      does : (c d : As) (f : End) → f ≡ end_of c p.link.adjacency → side_at ys c d ≡ at_end (end_of c p.link.adjacency) h.after → side_at xs c d ≡ at_end f p.link → so (side_at xs c d) (side_at ys c d)
+      does : (c d : As) (f : End) → f ≡ end_of c p.link.adjacency → side_at ys c d ≡ at_end (end_of c p.link.adjacency) y → side_at xs c d ≡ at_end f p.link → so (side_at xs c d) (side_at ys c d)
       does c d f f_is now before =
-          subst (λ (v : Side). so v (side_at ys c d)) (ap (at_end f) same ∙ sym before)
-          (subst (λ (v : Side). so (at_end f h.before) v) (ap (λ (g : End). at_end g h.after) f_is ∙ sym now) (at_each f h.before h.after h.changes))
+          subst (λ (v : Side). so v (side_at ys c d)) (sym before)
+          (subst (λ (v : Side). so (at_end f p.link) v) (ap (λ (g : End). at_end g y) f_is ∙ sym now) (at_each f h))
 
       rest : row_of ys ≡ set_side a b (side_at ys a b) (set_side b a (side_at ys b a) (row_of xs))
       rest =
-          ap (λ (ls : List Adjacency). let r : Row = record { adjacencies = ls; sides = side_at ys } in r) (ap adjacencies_in h.is ∙ adjacencies_set i xs p.link h.after p.found adjacency)
+          ap (λ (ls : List Adjacency). let r : Row = record { adjacencies = ls; sides = side_at ys } in r) (adjacencies_set i xs p.link y p.found h.adjacency)
           ∙ ap (λ (f : As → As → Side). let r : Row = record { adjacencies = adjacencies_in xs; sides = f } in r)
-          (sides ∙ ap (λ (v : Side). set_pair a b v (set_pair b a (at_end (end_of b p.link.adjacency) h.after) (side_at xs))) (sym here) ∙ ap (λ (v : Side). set_pair a b (side_at ys a b) (set_pair b a v (side_at xs))) (sym there'))
+          (sides ∙ ap (λ (v : Side). set_pair a b v (set_pair b a (at_end (end_of b p.link.adjacency) y) (side_at xs))) (sym here) ∙ ap (λ (v : Side). set_pair a b (side_at ys a b) (set_pair b a v (side_at xs))) (sym there'))
 
 -- ---- there is no link
 
@@ -286,38 +275,33 @@ module _ (a b : As) (i : ℕ) (e : End) (found items old : List Joined) (is_foun
   place_in : IsPlace a b i e found → IsPlace a b i e items
   place_in p = subst (λ (xs : List Joined). IsPlace a b i e xs) is_found p
 
+  -- what is read there is the link
+  link_is : (q : IsPlace a b i e items) (x : Joined) → x ≡ get_or items i x → x ≡ q.link
+  link_is q x is = is ∙ get_or_from_slice_get items i q.link x q.found
+
   -- what stands at an end
   pub read_side : IsPlace a b i e found → (x : Joined) → x ≡ get_or items i x → side_at old a b ≡ at_end e x
   read_side p x is =
       let q = place_in p in
-      sym (ap (λ (xs : List Joined). side_at xs a b) is_old) ∙ side_here a b i e items q
-      ∙ ap (at_end e) (sym (get_or_from_slice_get items i q.link x q.found) ∙ sym is)
+      sym (ap (λ (xs : List Joined). side_at xs a b) is_old) ∙ side_here a b i e items q ∙ ap (at_end e) (sym (link_is q x is))
 
-  -- what holds of it
-  pub holds_there : (P : Side → Type 0) → IsPlace a b i e found → P (side_at old a b) → IfSome (slice_get items i) (λ (x : Joined). P (at_end e x))
-  holds_there P p holds =
+  pub changes_there : (so : Side → Side → Type 0) → IsPlace a b i e found → (x y : Joined) → x ≡ get_or items i x → EndChanges e so x y → SideChanges a b so (row_of old) (row_of (set items i y))
+  changes_there so p x y is h =
       let q = place_in p in
-      subst (λ (o : Option Joined). IfSome o (λ (x : Joined). P (at_end e x))) (sym q.found)
-      (subst P (sym (ap (λ (xs : List Joined). side_at xs a b) is_old) ∙ side_here a b i e items q) holds)
+      subst (λ (xs : List Joined). SideChanges a b so (row_of xs) (row_of (set items i y))) is_old
+      (end_changes a b i e so items y q (subst (λ (z : Joined). EndChanges e so z y) (link_is q x is) h))
 
-  pub changes_there : (so : Side → Side → Type 0) (new : List Joined) → IsPlace a b i e found → ChangesAt i (EndChanges e so) items new → SideChanges a b so (row_of old) (row_of new)
-  changes_there so new p h = subst (λ (xs : List Joined). SideChanges a b so (row_of xs) (row_of new)) is_old (end_changes a b i e so items new (place_in p) h)
-
-  pub sets_there : (f : Side → Side) (new : List Joined) → IsPlace a b i e found → ChangesAt i (λ (x y : Joined). y ≡ set_end e (f (at_end e x)) x) items new →
-      row_of new ≡ set_side a b (f (side_at old a b)) (row_of old)
-  sets_there f new p h =
-      let there : at_end e h.after ≡ f (at_end e h.before) = ap (at_end e) h.changes ∙ set_there e (f (at_end e h.before)) h.before in
-      let all = changes_there (λ (s t : Side). t ≡ f s) new p (record {
-        before = h.before;
-        after = h.after;
-        found = h.found;
-        is = h.is;
-        changes = record { rest = h.changes ∙ ap (λ (s : Side). set_end e s h.before) (sym there); does = there };
-      }) in
+  pub sets_there : (f : Side → Side) → IsPlace a b i e found → (x y : Joined) → x ≡ get_or items i x → y ≡ set_end e (f (at_end e x)) x → row_of (set items i y) ≡ set_side a b (f (side_at old a b)) (row_of old)
+  sets_there f p x y is h =
+      let there : at_end e y ≡ f (at_end e x) = ap (at_end e) h ∙ set_there e (f (at_end e x)) x in
+      let all = changes_there (λ (s t : Side). t ≡ f s) p x y is (record { rest = h ∙ ap (λ (s : Side). set_end e s x) (sym there); does = there }) in
       all.rest ∙ ap (λ (s : Side). set_side a b s (row_of old)) all.does
 
-  pub both_there : (so : Side → Side → Type 0) (new : List Joined) → IsPlace a b i e found → ChangesAt i (BothChange so) items new → BothSidesChange a b so (row_of old) (row_of new)
-  both_there so new p h = subst (λ (xs : List Joined). BothSidesChange a b so (row_of xs) (row_of new)) is_old (link_changes a b i e so items new (place_in p) h)
+  pub both_there : (so : Side → Side → Type 0) → IsPlace a b i e found → (x y : Joined) → x ≡ get_or items i x → BothChange so x y → BothSidesChange a b so (row_of old) (row_of (set items i y))
+  both_there so p x y is h =
+      let q = place_in p in
+      subst (λ (xs : List Joined). BothSidesChange a b so (row_of xs) (row_of (set items i y))) is_old
+      (link_changes a b i e so items y q (subst (λ (z : Joined). BothChange so z y) (link_is q x is) h))
 
   pub adjacency_there : IsPlace a b i e found → true ≡ has_adjacency a b (adjacencies_in old)
   adjacency_there p = sym (sym (ap (λ (xs : List Joined). has_adjacency a b (adjacencies_in xs)) is_old) ∙ some_adjacency a b i items (place_in p).first)

@@ -1,5 +1,5 @@
 -- What no step of a session changes, and when one is over.
-use Rattle.std.proofs.Common.{◌≡◌, ℕ, ◌==◌, ◌&&◌, not, Bool, true, false, cond, List, [], ◌∷◌, Option, Some, None, refl}
+use Rattle.std.proofs.Common.{◌≡◌, ℕ, ◌==◌, ◌&&◌, not, Bool, true, false, cond, Option, Some, None, refl}
 use Rattle.plant_model.specs.Types.{OpenBody, Message, Input, Phase, State}
 use Rattle.pcep_messages.specs.declared.message.Message.TheVariants as messages
 use Rattle.pcep_session.specs.Reports.{first_error_of, first_opening_of}

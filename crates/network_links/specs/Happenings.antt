@@ -10,7 +10,7 @@ use Rattle.plant_model.specs.Events.{Answered, is_down, drained}
 use Rattle.network_links.specs.Ends.{fed_while_up}
 use Rattle.network_links.specs.Rooms.{Frees, queue}
 use Rattle.network_links.specs.declared.peers.Drained.{Drained as Handed}
-use Rattle.network_links.specs.Peers.{IsDrained}
+use Rattle.network_links.specs.Accesses.{IsDrained}
 use Rattle.network_links.specs.Flow.{Flow, change_access}
 
 -- ---- a feed

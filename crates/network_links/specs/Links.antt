@@ -1,5 +1,5 @@
 -- An inner link: two sessions and two queues, each named by the end that sends.
-use Rattle.std.specs.Prelude.{ℕ, ◌+◌, ◌%◌, List, []}
+use Rattle.std.specs.Prelude.{ℕ, ◌+◌, ◌%◌, []}
 use Rattle.plant_model.specs.Types.{As, State as Session}
 use Rattle.plant_text.specs.Settings.{Adjacency}
 use Rattle.pcep_session.specs.Table.{new_state}

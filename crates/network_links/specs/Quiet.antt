@@ -3,28 +3,14 @@ use Rattle.std.specs.Prelude.{◌≡◌, Bool, true}
 use Rattle.plant_model.specs.Types.{As, Peer, Outside, Inner, Tick}
 use Rattle.pcep_session.specs.Quiet.{after_quiet, is_quiet}
 use Rattle.plant_text.specs.Settings.{has_adjacency}
-use Rattle.network_links.specs.declared.access.Access.{Access}
-use Rattle.network_links.specs.declared.link.End.{End}
 use Rattle.network_links.specs.Ends.{with_kept}
-use Rattle.network_links.specs.Links.{Joined, at_end, set_end}
 use Rattle.network_links.specs.QuietSides.{is_quiet_peer, sender_ticked, ticked_quietly}
-use Rattle.network_links.specs.Accesses.{on_connected}
 use Rattle.network_links.specs.Flow.{Flow, change_access, set_session}
-use Rattle.network_links.specs.Peers.{access_of}
 use Rattle.network_links.specs.Sides.{Side}
 
--- whether there was nothing to say or to do, and what the peer is then
-pub record TicksAccess (now : Tick) (quiet : Bool) (old new : Access) : Type 0 where
-  pub answer : quiet ≡ is_quiet_peer now (access_of old).connection
-  pub is : new ≡ on_connected (ticked_quietly now) old
-
--- the same of what one end of a link sends
+-- what one end of a link sends
 abbrev pub side_ticked : Tick → Side → Side
 side_ticked now s = with_kept (sender_ticked now s.kept) s
-
-pub record TicksEnd (now : Tick) (e : End) (quiet : Bool) (old new : Joined) : Type 0 where
-  pub answer : quiet ≡ is_quiet now (at_end e old).kept.session
-  pub is : new ≡ set_end e (side_ticked now (at_end e old)) old
 
 -- ---- the session of a member with a peer
 

@@ -1,5 +1,5 @@
 -- A row of links, as what each end sends to the other.
-use Rattle.std.specs.Prelude.{◌≡◌, ℕ, zero, suc, true, false, cond, List, [], ◌∷◌, Option, Some, None, Result, OnOk, map, drop, slice_get, slice_set}
+use Rattle.std.specs.Prelude.{◌≡◌, ℕ, zero, suc, true, false, cond, List, [], ◌∷◌, Option, Some, None, Result, OnOk, map, drop, slice_get}
 use Rattle.plant_model.specs.Types.{As, NoMemory, Tick, State as Session}
 use Rattle.pcep_session.specs.declared.actions.Own.TheVariants.{Open}
 use Rattle.plant_text.specs.Names.{same_as, same_link}
@@ -62,23 +62,12 @@ set_side a b s r = record r { sides = set_pair a b s r.sides }
 abbrev pub with_session : Session → Side → Side
 with_session session s = with_kept (record s.kept { session = session }) s
 
-abbrev pub HasSid : ℕ → Side → Type 0
-HasSid sid s = s.kept.session.offer.sid ≡ sid
-
 -- what one end sends to the other stands in this link at this end
 pub record IsPlace (a b : As) (i : ℕ) (e : End) (xs : List Joined) : Type 0 where
   pub link : Joined
   pub first : IsFirst a b i xs
   pub found : slice_get xs i ≡ Some link
   pub end : e ≡ end_of a link.adjacency
-
--- one link changes, and so
-pub record ChangesAt (i : ℕ) (so : Joined → Joined → Type 0) (old new : List Joined) : Type 0 where
-  pub before : Joined
-  pub after : Joined
-  pub found : slice_get old i ≡ Some before
-  pub is : new ≡ slice_set old i after
-  pub changes : so before after
 
 -- links whose sessions have not begun, each end of which keeps room for what its session says of itself
 pub record AreNewLinks (adjacencies : List Adjacency) (r : Row) : Type 0 where

@@ -1,5 +1,5 @@
 //! Inner links in their order.
-ghost use Rattle.std.specs.Prelude.{◌≡◌, ◌<◌, true, [], length, not, slice_get, Some, None, IfOk, IfSome, MatchOption};
+ghost use Rattle.std.specs.Prelude.{◌≡◌, true, [], length, not, slice_get, Some, None, IfOk, MatchOption};
 ghost use Rattle.std.specs.Option.{option_map};
 ghost use Rattle.plant_text.specs.Names.{same_link};
 ghost use Rattle.plant_text.specs.Settings.{has_adjacency};
@@ -10,11 +10,11 @@ ghost use Rattle.plant_model.specs.Names.{is_empty};
 ghost use Rattle.plant_model.specs.RealWire.{wire};
 ghost use Rattle.plant_model.specs.Deeds as deeds;
 ghost use Rattle.network_links.specs.Ends.{is_left_out};
-ghost use Rattle.network_links.specs.Links.{at_end, set_end, new_sender, next_sid};
+ghost use Rattle.network_links.specs.Links.{at_end, new_sender, next_sid};
 ghost use Rattle.network_links.specs.Rooms.{KeepsRoom, queue};
-ghost use Rattle.network_links.specs.Quiet.{TicksEnd, side_ticked};
+ghost use Rattle.network_links.specs.Quiet.{side_ticked};
 ghost use Rattle.network_links.specs.Sides as sides;
-ghost use Rattle.network_links.specs.Sides.{AreNewLinks, Begins, BothChange, BothSidesChange, ChangesAt, DropsFirst, Empties, EndChanges, HasSid, IsPlace, Reserves, Sends, SideChanges, link_at, row_of, set_side, with_session};
+ghost use Rattle.network_links.specs.Sides.{AreNewLinks, Begins, BothSidesChange, DropsFirst, Empties, IsPlace, Reserves, Sends, SideChanges, link_at, row_of, set_side, with_session};
 
 use crate::OWN_LENGTH;
 use crate::link::{End, Link};
@@ -97,64 +97,6 @@ fn session_at(link: &Link, end: End) -> Session
     link.session(end)
 }
 
-fn set_session_at(links: &mut Vec<Link>, i: usize, end: End, session: Session)
-    requires within { i < length links.old.items }
-    requires sid { IfSome (slice_get links.old.items i) (λ x. HasSid session.offer.sid (at_end end x)) }
-    ensures { ChangesAt i (λ x y. y ≡ set_end end (with_session session (at_end end x)) x) links.old.items links.new.items }
-{
-    links[i].set_session(end, session);
-}
-
-fn drop_first_at(links: &mut Vec<Link>, i: usize, end: End)
-    requires { i < length links.old.items }
-    ensures { ChangesAt i (EndChanges end DropsFirst) links.old.items links.new.items }
-{
-    links[i].drop_first(end);
-}
-
-fn clear_at(links: &mut Vec<Link>, i: usize)
-    requires { i < length links.old.items }
-    ensures { ChangesAt i (BothChange Empties) links.old.items links.new.items }
-{
-    links[i].clear();
-}
-
-fn reserve_at(
-    links: &mut Vec<Link>,
-    i: usize,
-    end: End,
-    messages: usize,
-    bytes: usize,
-) -> Result<(), NoMemory>
-    requires { i < length links.old.items }
-    ensures { ChangesAt i (EndChanges end (Reserves messages bytes result)) links.old.items links.new.items }
-{
-    links[i].reserve(end, messages, bytes)
-}
-
-fn put_at(links: &mut Vec<Link>, i: usize, end: End, message: &[u8])
-    requires within { i < length links.old.items }
-    requires room { IfSome (slice_get links.old.items i) (λ x. Covers (at_end end x).spare 1 (length message.now)) }
-    ensures { ChangesAt i (EndChanges end (Sends message.now)) links.old.items links.new.items }
-{
-    links[i].put(end, message);
-}
-
-fn begin_at(links: &mut Vec<Link>, i: usize, end: End, sid: u8, now: Tick)
-    requires within { i < length links.old.items }
-    requires room { IfSome (slice_get links.old.items i) (λ x. Covers (at_end end x).spare 1 OWN_LENGTH) }
-    ensures { ChangesAt i (EndChanges end (Begins sid now)) links.old.items links.new.items }
-{
-    links[i].begin(end, sid, now);
-}
-
-fn tick_quietly_at(links: &mut Vec<Link>, i: usize, end: End, now: Tick) -> bool
-    requires { i < length links.old.items }
-    ensures { ChangesAt i (TicksEnd now end result) links.old.items links.new.items }
-{
-    links[i].tick_quietly(end, now)
-}
-
 impl Links {
     /// Links whose sessions have not begun.
     pub fn new(alloc: Global, adjacencies: &[(As, As)]) -> Result<Links, NoMemory>
@@ -211,7 +153,7 @@ impl Links {
         ensures { (row_of self.new) ≡ set_side at to (with_session session ((row_of self.old).sides at to)) (row_of self.old) }
     {
         match place_of(&self.links, at, to) {
-            Some(place) => set_session_at(&mut self.links, place.link, place.end, session),
+            Some(place) => self.links[place.link].set_session(place.end, session),
             None => unreachable!(),
         }
     }
@@ -241,7 +183,7 @@ impl Links {
         ensures { SideChanges from to DropsFirst (row_of self.old) (row_of self.new) }
     {
         match place_of(&self.links, from, to) {
-            Some(place) => drop_first_at(&mut self.links, place.link, place.end),
+            Some(place) => self.links[place.link].drop_first(place.end),
             None => {}
         }
     }
@@ -261,7 +203,7 @@ impl Links {
         ensures { BothSidesChange a b Empties (row_of self.old) (row_of self.new) }
     {
         match place_of(&self.links, a, b) {
-            Some(place) => clear_at(&mut self.links, place.link),
+            Some(place) => self.links[place.link].clear(),
             None => {}
         }
     }
@@ -281,7 +223,7 @@ impl Links {
         ensures { SideChanges at to (Reserves messages bytes result) (row_of self.old) (row_of self.new) }
     {
         match place_of(&self.links, at, to) {
-            Some(place) => reserve_at(&mut self.links, place.link, place.end, messages, bytes),
+            Some(place) => self.links[place.link].reserve(place.end, messages, bytes),
             None => Err(NoMemory),
         }
     }
@@ -292,7 +234,7 @@ impl Links {
         ensures { SideChanges at to (Sends message.now) (row_of self.old) (row_of self.new) }
     {
         match place_of(&self.links, at, to) {
-            Some(place) => put_at(&mut self.links, place.link, place.end, message),
+            Some(place) => self.links[place.link].put(place.end, message),
             None => unreachable!(),
         }
     }
@@ -303,7 +245,7 @@ impl Links {
         ensures { SideChanges at to (Begins sid now) (row_of self.old) (row_of self.new) }
     {
         match place_of(&self.links, at, to) {
-            Some(place) => begin_at(&mut self.links, place.link, place.end, sid, now),
+            Some(place) => self.links[place.link].begin(place.end, sid, now),
             None => unreachable!(),
         }
     }
@@ -316,7 +258,7 @@ impl Links {
         ensures next { (row_of self.new) ≡ set_side at to (side_ticked now ((row_of self.old).sides at to)) (row_of self.old) }
     {
         match place_of(&self.links, at, to) {
-            Some(place) => tick_quietly_at(&mut self.links, place.link, place.end, now),
+            Some(place) => self.links[place.link].tick_quietly(place.end, now),
             None => unreachable!(),
         }
     }

@@ -1,18 +1,17 @@
 //! Outside peers by their numbers.
-ghost use Rattle.std.specs.Prelude.{◌≡◌, ◌<◌, ◌%◌, ◌+◌, [], drop, length, slice_get, Some, None, IfOk, OnErr, is_some};
+ghost use Rattle.std.specs.Prelude.{◌≡◌, ◌<◌, [], length, slice_get, IfOk, is_some};
 ghost use Rattle.std.specs.Option.{option_map};
 ghost use Rattle.plant_queues.specs.Messages.{Covers};
 ghost use Rattle.plant_model.specs.RealWire.{wire};
 ghost use Rattle.plant_model.specs.Deeds as deeds;
+ghost use Rattle.network_links.specs.Accesses.{ConnectsGuest, DrainsGuest, FeedsGuest, Goes, GrowsGuest, SendsGuest, Shuts, TicksGuest};
 ghost use Rattle.network_links.specs.Ends.{is_left_out};
-ghost use Rattle.network_links.specs.QuietSides.{is_quiet_peer, ticked_quietly};
-ghost use Rattle.network_links.specs.Flow.{drop_first, inbox_of, no_room, out_of};
-ghost use Rattle.network_links.specs.Peers.{Connects, DrainsPeer, FeedsPeer, GrowsGuest, SendsGuest, change_guest, guests_of, no_guests, set_guest};
+ghost use Rattle.network_links.specs.Flow.{drop_first, inbox_of, out_of};
+ghost use Rattle.network_links.specs.Peers.{Changes, guests_of, no_guests};
 
 use crate::access::Access;
 use crate::accesses::{
-    connect_at, drain_at, drop_first_at, empty_inbox_at, feed_at, put_at, reserve_at,
-    set_session_at, shut_at, tick_quietly_at,
+    connect, drain, drop_first, empty_inbox, feed, put, reserve, set_session, shut, tick_quietly,
 };
 use crate::connection::Connection;
 use dom_base::{Bytes, NoMemory, Tick};
@@ -123,28 +122,28 @@ impl Peers {
 
     /// Puts the peer's session in place of the one that stands there.
     pub fn set_session(&mut self, peer: u32, session: Session)
-        ensures { (guests_of self.new) ≡ change_guest peer (deeds.with_session session) (guests_of self.old) }
+        ensures { Changes peer (Goes (deeds.with_session session)) (guests_of self.old) (guests_of self.new) }
     {
-        if (peer as usize) < self.rows.len() {
-            set_session_at(&mut self.rows, peer as usize, session);
+        if let Some(access) = self.rows.get_mut(peer as usize) {
+            set_session(access, session);
         }
     }
 
     /// Takes the first message out of the peer's inbox.
     pub fn drop_first(&mut self, peer: u32)
-        ensures { (guests_of self.new) ≡ change_guest peer drop_first (guests_of self.old) }
+        ensures { Changes peer (Goes drop_first) (guests_of self.old) (guests_of self.new) }
     {
-        if (peer as usize) < self.rows.len() {
-            drop_first_at(&mut self.rows, peer as usize);
+        if let Some(access) = self.rows.get_mut(peer as usize) {
+            drop_first(access);
         }
     }
 
     /// Drops all that waits in the peer's inbox.
     pub fn empty_inbox(&mut self, peer: u32)
-        ensures { (guests_of self.new) ≡ change_guest peer (deeds.with_inbox []) (guests_of self.old) }
+        ensures { Changes peer (Goes (deeds.with_inbox [])) (guests_of self.old) (guests_of self.new) }
     {
-        if (peer as usize) < self.rows.len() {
-            empty_inbox_at(&mut self.rows, peer as usize);
+        if let Some(access) = self.rows.get_mut(peer as usize) {
+            empty_inbox(access);
         }
     }
 
@@ -157,60 +156,60 @@ impl Peers {
         now: Tick,
     ) -> Result<(), NoMemory>
         requires { peer < (guests_of self.old).count }
-        ensures { Connects peer holder now (guests_of self.old) result (guests_of self.new) }
+        ensures { Changes peer (ConnectsGuest holder now result) (guests_of self.old) (guests_of self.new) }
     {
-        connect_at(&mut self.rows, peer as usize, alloc, holder, now)
+        match self.rows.get_mut(peer as usize) {
+            Some(access) => connect(access, alloc, holder, now),
+            None => unreachable!(),
+        }
     }
 
     /// Shuts the peer's connection; what waits in it is dropped.
     pub fn shut(&mut self, peer: u32)
-        ensures { (guests_of self.new) ≡ set_guest peer (record { opened = ((guests_of self.old).accesses peer).opened; connection = None }) no_room (guests_of self.old) }
+        ensures { Changes peer Shuts (guests_of self.old) (guests_of self.new) }
     {
-        if (peer as usize) < self.rows.len() {
-            shut_at(&mut self.rows, peer as usize);
+        if let Some(access) = self.rows.get_mut(peer as usize) {
+            shut(access);
         }
     }
 
     /// Makes room in the queue of a peer; refuses where it is closed.
     pub fn reserve(&mut self, peer: u32, messages: usize, bytes: usize) -> Result<(), NoMemory>
-        ensures { GrowsGuest peer messages bytes (guests_of self.old) result (guests_of self.new) }
+        ensures { Changes peer (GrowsGuest messages bytes result) (guests_of self.old) (guests_of self.new) }
     {
-        if (peer as usize) < self.rows.len() {
-            reserve_at(&mut self.rows, peer as usize, messages, bytes)
-        } else {
-            Err(NoMemory)
+        match self.rows.get_mut(peer as usize) {
+            Some(access) => reserve(access, messages, bytes),
+            None => Err(NoMemory),
         }
     }
 
     /// Sends a message for which there is room.
     pub fn put(&mut self, peer: u32, message: &[u8])
         requires { Covers ((guests_of self.old).room peer) 1 (length message.now) }
-        ensures { SendsGuest peer message.now (guests_of self.old) (guests_of self.new) }
+        ensures { Changes peer (SendsGuest message.now) (guests_of self.old) (guests_of self.new) }
     {
-        if (peer as usize) < self.rows.len() {
-            put_at(&mut self.rows, peer as usize, message);
-        } else {
-            unreachable!();
+        match self.rows.get_mut(peer as usize) {
+            Some(access) => put(access, message),
+            None => unreachable!(),
         }
     }
 
     /// An outside peer feeds bytes.
     pub fn feed(&mut self, peer: u32, piece: &[u8]) -> Result<(), Refused>
-        ensures { FeedsPeer peer piece.now (guests_of self.old) result (guests_of self.new) }
+        ensures { Changes peer (FeedsGuest piece.now result) (guests_of self.old) (guests_of self.new) }
     {
-        if (peer as usize) < self.rows.len() {
-            feed_at(&mut self.rows, peer as usize, piece)
-        } else {
-            Err(Refused::NoSuchPeer)
+        match self.rows.get_mut(peer as usize) {
+            Some(access) => feed(access, piece),
+            None => Err(Refused::NoSuchPeer),
         }
     }
 
     /// What waits for an outside peer is handed out to the holder of its connection.
     pub fn drain(&mut self, peer: u32, holder: u32) -> Result<Drained, Refused>
-        ensures { DrainsPeer peer holder (guests_of self.old) result (guests_of self.new) }
+        ensures { Changes peer (DrainsGuest holder result) (guests_of self.old) (guests_of self.new) }
     {
         if (peer as usize) < self.rows.len() {
-            drain_at(&mut self.rows, peer as usize, holder)
+            drain(&mut self.rows[peer as usize], holder)
         } else {
             Err(Refused::NoSuchPeer)
         }
@@ -219,13 +218,11 @@ impl Peers {
     /// The step of a tick, where the peer's session has nothing to say or to do at it or the peer is
     /// closed, and whether that is so; where it is not, nothing changes.
     pub fn tick_quietly(&mut self, peer: u32, now: Tick) -> bool
-        ensures quiet { result ≡ is_quiet_peer now ((guests_of self.old).accesses peer).connection }
-        ensures next { (guests_of self.new) ≡ change_guest peer (ticked_quietly now) (guests_of self.old) }
+        ensures { Changes peer (TicksGuest now result) (guests_of self.old) (guests_of self.new) }
     {
-        if (peer as usize) < self.rows.len() {
-            tick_quietly_at(&mut self.rows, peer as usize, now)
-        } else {
-            true
+        match self.rows.get_mut(peer as usize) {
+            Some(access) => tick_quietly(access, now),
+            None => true,
         }
     }
 }

@@ -85,14 +85,6 @@ loaded g e = with_current (record { number = suc e.current.number; topology = g 
 abbrev pub IsFull : Seen Pin Segment → Type 0
 IsFull e = IsTrue (is_full e.current.number e.losing.element.pending.rows)
 
-pub record LoadsPlace (i : ℕ) (g : Rows) (old : List (Seen Pin Segment)) (r : Result ℕ LoadError) (new : List (Seen Pin Segment)) : Type 0 where
-  pub next : Seen Pin Segment
-  pub is : new ≡ slice_set old i next
-  pub number : IfOk r (λ k. k ≡ suc (slice_index_or old i (no_one first_pin)).current.number)
-  pub ok : OnOk r (SameButRoom (loaded g (slice_index_or old i (no_one first_pin))) next)
-  pub full : (r ≡ Err load_error.Full) ↔ IsFull (slice_index_or old i (no_one first_pin))
-  pub err : OnErr r (next ≡ slice_index_or old i (no_one first_pin))
-
 abbrev pub refused_of : LoadError → Refused
 refused_of load_error.Full = GenerationsFull
 refused_of load_error.NoMemory = NoMemory

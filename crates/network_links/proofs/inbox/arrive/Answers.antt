@@ -1,4 +1,4 @@
-use Rattle.std.proofs.Common.{◌≡◌, ◌∙◌, Bool, ap}
+use Rattle.std.proofs.Common.{◌≡◌, ◌∙◌, ap}
 use Rattle.pcep_framing.specs.Frames.{Framing}
 use Rattle.pcep_framing.specs.Feeding.{feed_of}
 use Rattle.network_links.proofs.InboxLemmas.{brings_is}

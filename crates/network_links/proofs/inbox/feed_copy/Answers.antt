@@ -1,4 +1,4 @@
-use Rattle.std.proofs.Common.{◌≡◌, ◌∙◌, ap}
+use Rattle.std.proofs.Common.{◌∙◌, ap}
 use Rattle.pcep_framing.specs.Frames.{Framing}
 use Rattle.pcep_framing.specs.Feeding.{feed_of}
 use Rattle.pcep_framing.proofs.FeedLemmas.{feed_is}

@@ -1,4 +1,4 @@
-use Rattle.std.proofs.Common.{◌≡◌, ◌∙◌, not, sym, ap}
+use Rattle.std.proofs.Common.{◌∙◌, not, sym, ap}
 use Rattle.plant_model.specs.Names.{is_empty}
 use Rattle.network_links.specs.Sides.{Side}
 use Rattle.network_links.proofs.RowLemmas.{read_side}

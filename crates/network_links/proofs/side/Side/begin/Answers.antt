@@ -1,4 +1,4 @@
-use Rattle.std.proofs.Common.{◌≡◌, ◌∙◌, ◌++◌, ◌∷◌, [], List, ℕ, ap}
+use Rattle.std.proofs.Common.{◌∙◌, ◌++◌, ◌∷◌, [], List, ℕ, ap}
 use Rattle.plant_model.specs.Types.{State as Session}
 use Rattle.pcep_session.specs.declared.actions.Own.TheVariants.{Open}
 use Rattle.plant_model.specs.Deeds.{our_offer}
