@@ -1,5 +1,5 @@
 -- Places counted through two lists.
-use Rattle.std.proofs.Common.{◌≡◌, inl, inr, ℕ, ◌+◌, ◌-◌, ◌<◌, ◌≤◌, List, [], ◌∷◌, length, take, drop, None, Some, sym, ◌∙◌, subst, arith}
+use Rattle.std.proofs.Common.{◌≡◌, inl, inr, ℕ, ◌+◌, ◌-◌, ◌<◌, ◌≤◌, List, [], ◌∷◌, ◌++◌, length, take, drop, None, Some, sym, ◌∙◌, ap, subst, arith}
 use Rattle.std.specs.Prelude.{MatchOption}
 use Rattle.std.specs.declared.option.Option.{Option}
 use Rattle.std.proofs.lemmas.Bool.{cases_lt}
@@ -44,15 +44,6 @@ first_false g q s t first second k stops = record {
   earlier = λ j before. record { in_first = stops.earlier j before; in_second = λ behind. absurd (let within = first_within g q [] s t first k stops j before in omega (arith, within, behind)) };
 }
 
-pub second_false : (g : Rows) (q : Query) (s t : Addr) (first second : List Addr) (m : ℕ) → ((k : ℕ) → ListHolds g q [] s t first k) → IsFirstNot (ListHolds g q (fars_of first) s t second) m →
-    IsFirstNot (PathHolds g q s t first second) (length first + m)
-second_false g q s t first second m holds stops = record {
-  fails = λ both.
-      let same : length first + m - length first ≡ m = omega arith in
-      stops.fails (subst (ListHolds g q (fars_of first) s t second) same (both.in_second (omega arith)));
-  earlier = λ j before. record { in_first = holds j; in_second = λ behind. stops.earlier (j - length first) (omega arith) };
-}
-
 pub both_hold : (g : Rows) (q : Query) (s t : Addr) (first second : List Addr) → ((k : ℕ) → ListHolds g q [] s t first k) → ((k : ℕ) → ListHolds g q (fars_of first) s t second k) →
     (k : ℕ) → PathHolds g q s t first second k
 both_hold g q s t first second one other k = record { in_first = one k; in_second = λ behind. other (k - length first) }
@@ -69,3 +60,10 @@ pub second_shown : (g : Rows) (q : Query) (s t : Addr) (first second : List Addr
 second_shown g q s t first second holds =
     some_shown g q (fars_of first) s t second
     (λ k. let same : length first + k - length first ≡ k = omega arith in subst (ListHolds g q (fars_of first) s t second) same ((holds (length first + k)).in_second (omega arith)))
+
+-- and so of both lists, where each of their places holds
+pub both_behind : (g : Rows) (q : Query) (s t : Addr) (first second : List Addr) → ((k : ℕ) → PathHolds g q s t first second k) →
+    take (length first - 1) (drop 1 first) ++ take (length second - 1) (drop 1 second) ≡ fars_of first ++ fars_of second
+both_behind g q s t first second holds =
+    ap (λ (xs : List Addr). xs ++ take (length second - 1) (drop 1 second)) (behind_first first (first_shown g q s t first second holds))
+    ∙ ap (λ (xs : List Addr). fars_of first ++ xs) (behind_first second (second_shown g q s t first second holds))

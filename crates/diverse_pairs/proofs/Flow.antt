@@ -132,12 +132,6 @@ abbrev pub Fresh : List ℕ → Type 0
 Fresh [] = Unit {0}
 Fresh (i ∷ is) = (¬ Among is i) × Fresh is
 
-used_within : (us : List Bool) (i : ℕ) → is_used us i ≡ true → i < length us
-used_within us i used = elim (cases_lt i (length us)) [
-  | inl lt ↦ lt
-  | inr ge ↦ let none : false ≡ true = sym (get_or_past us i false ge) ∙ used in absurd cc
-]
-
 arc_inside : (arcs : List (Option Arc)) (j : ℕ) (a : Arc) → IsArc arcs j a → j < length arcs
 arc_inside arcs j a is = elim (cases_lt j (length arcs)) [
   | inl lt ↦ lt

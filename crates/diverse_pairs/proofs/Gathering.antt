@@ -29,10 +29,6 @@ pub risen : (done : List Addr) (least : ℕ) (word : List ℕ) (words : List (Li
     → in_front done (rising_in least (word ∷ words)) ≡ in_front (done ++ addr ∷ []) (rising_in (rank addr + 1) words)
 risen done least word words addr e above = rw (e, above) (regroup done addr (rising_in (rank addr + 1) words))
 
-pub not_risen : (done : List Addr) (least : ℕ) (word : List ℕ) (words : List (List ℕ)) (addr : Addr) → addr_in word ≡ Some addr → leb least (rank addr) ≡ false
-    → in_front done (rising_in least (word ∷ words)) ≡ None
-not_risen done least word words addr e below = rw (e, below) refl
-
 pub no_addr : (done : List Addr) (least : ℕ) (word : List ℕ) (words : List (List ℕ)) → addr_in word ≡ None → in_front done (rising_in least (word ∷ words)) ≡ None
 no_addr done least word words e = rw e refl
 

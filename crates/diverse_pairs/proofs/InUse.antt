@@ -136,21 +136,6 @@ module _ (g : Rows) (q : Query) (s t : Addr) (from to : ℕ) (arcs : List (Optio
         lowest flags Use told admits is goes.1 l.to ms head goes.3 at_links.1,
       )
 
-  -- and its far addresses lead on
-  pub leads : (flags : List Bool) (is : List ℕ) (v : ℕ) (n : Addr) (ms : List Link) → slice_get g.nodes v ≡ Some n → Goes arcs flags v is to → AreAt g.links is ms → LeadsAlong g q n (map (λ (l : Link). l.far) ms) t
-  leads flags [] v n [] at_v goes at_links =
-      let same : n ≡ t = one_node g.nodes to n t (ap (slice_get g.nodes) (sym goes) ∙ at_v) p.target.at_place in
-      (same, subst (AdmitsNode g q) (sym same) p.target.admitted)
-  leads flags [] v n (m ∷ ms) at_v goes at_links = absurd at_links
-  leads flags (i ∷ is) v n [] at_v goes at_links = absurd at_links
-  leads flags (i ∷ is) v n (l ∷ ms) at_v goes at_links =
-      let step = goes.2 in
-      let of = arc_link g q arcs f.are i step.arc step.is_arc in
-      let same : of.link ≡ l = one_link g.links i of.link l of.at_place.at_link at_links.0 in
-      let tail : slice_get g.nodes v ≡ Some l.from = ap (slice_get g.nodes) (sym step.tail) ∙ of.tail ∙ ap (λ (k : Link). Some k.from) same in
-      let head : slice_get g.nodes goes.1 ≡ Some l.to = ap (slice_get g.nodes) (sym step.same_head) ∙ of.head ∙ ap (λ (k : Link). Some k.to) same in
-      (l, refl, one_node g.nodes v l.from n tail at_v, subst (AdmitsLink g q) same of.at_place.admitted, leads flags is goes.1 l.to ms head goes.3 at_links.1)
-
   -- and its links are a walk
   pub walked : (flags : List Bool) (is : List ℕ) (v : ℕ) (n : Addr) (ms : List Link) → slice_get g.nodes v ≡ Some n → Goes arcs flags v is to → AreAt g.links is ms → Walk g q n t ms
   walked flags [] v n [] at_v goes at_links =
@@ -165,6 +150,14 @@ module _ (g : Rows) (q : Query) (s t : Addr) (from to : ℕ) (arcs : List (Optio
       let tail : slice_get g.nodes v ≡ Some l.from = ap (slice_get g.nodes) (sym step.tail) ∙ of.tail ∙ ap (λ (k : Link). Some k.from) same in
       let head : slice_get g.nodes goes.1 ≡ Some l.to = ap (slice_get g.nodes) (sym step.same_head) ∙ of.head ∙ ap (λ (k : Link). Some k.to) same in
       (one_node g.nodes v l.from n tail at_v, subst (AdmitsLink g q) same of.at_place.admitted, walked flags is goes.1 l.to ms head goes.3 at_links.1)
+
+  leads_along : (n : Addr) (ms : List Link) → Walk g q n t ms → LeadsAlong g q n (map (λ (l : Link). l.far) ms) t
+  leads_along n [] walk = walk
+  leads_along n (l ∷ ms) walk = (l, refl, walk.0, walk.1, leads_along l.to ms walk.2)
+
+  -- and its far addresses lead on
+  pub leads : (flags : List Bool) (is : List ℕ) (v : ℕ) (n : Addr) (ms : List Link) → slice_get g.nodes v ≡ Some n → Goes arcs flags v is to → AreAt g.links is ms → LeadsAlong g q n (map (λ (l : Link). l.far) ms) t
+  leads flags is v n ms at_v goes at_links = leads_along n ms (walked flags is v n ms at_v goes at_links)
 
   pub path_links : (flags : List Bool) (is : List ℕ) (v : ℕ) → Goes arcs flags v is to → (ms : List Link) × AreAt g.links is ms
   path_links flags [] v goes = ([], tt)

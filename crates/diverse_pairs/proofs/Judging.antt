@@ -61,17 +61,6 @@ paths_hold a p first second paths links (Node j) = tt
 paths_hold a p first second paths links (Path k) = paths k
 paths_hold a p first second paths links (Link i) = links i
 
-before_end : (a : Asked) (nodes : List Addr) (other : Place) → IsBefore other (Seed 0) → HoldsAt a (Cut nodes) other
-before_end a nodes (Seed j) (inl lt) = absurd (omega arith)
-before_end a nodes (Seed j) (inr same) = absurd (omega (arith, same.1))
-before_end a nodes (Path j) before = tt
-before_end a nodes (Node j) before = tt
-before_end a nodes (Link j) (inl lt) = absurd (omega arith)
-before_end a nodes (Link j) (inr same) = absurd (omega (arith, same.0))
-
-pub end_first : (a : Asked) (nodes : List Addr) → (EndsHold a nodes → ⊥) → IsVerdict a (Cut nodes) (Fails (Seed 0))
-end_first a nodes fails = record { fails = fails; earlier = before_end a nodes }
-
 before_crossing : (a : Asked) (nodes : List Addr) (i : ℕ) → EndsHold a nodes → ((j : ℕ) → j < i → IsOnlyToLeave a.topology a.query nodes j) → (other : Place) → IsBefore other (Link i) →
     HoldsAt a (Cut nodes) other
 before_crossing a nodes i ends earlier (Seed j) before = ends

@@ -23,7 +23,7 @@ use Rattle.diverse_pairs.specs.Paths.{Goes, IsFirstFrom}
 use Rattle.diverse_pairs.specs.Chosen.{Residual, taken, turned, IsResidual, ResidualWalk, residual_cost, residual_fars, ComesFirst, IsSecondWalk}
 use Rattle.diverse_pairs.specs.Network.{AreArcs}
 use Rattle.diverse_pairs.proofs.Beside.{Left, left, stays, first_reached, left_among, back_reached, IsReached, reached_at, same_hops, straight_low, straight_tight, back_low, back_tight, straight_again, back_again, straight_ends, back_ends}
-use Rattle.diverse_pairs.proofs.Linked.{admitted_arc, arc_link, one_node, one_link}
+use Rattle.diverse_pairs.proofs.Linked.{HasArc, admitted_arc, arc_link, one_node, one_link}
 
 -- a link as it stands beside the walk, by whether it is in use
 abbrev pub beside : Query → Bool → Link → Residual
@@ -88,48 +88,36 @@ module _ (g : Rows) (q : Query) (t : Addr) (walk : List Link) (arcs rs : List (O
       go false is = is
       go true is = absurd (lacks ((k.marked i l at_l).0 is))
 
-  straight_arc : (l : Link) (v : ℕ) → AdmitsLink g q l → ¬ Contains walk l → slice_get g.nodes v ≡ Some l.to → at ls v < UNREACHED → Crossing (taken q l) v
-  straight_arc l v admitted lacks at_v reached =
-      let h = admitted_arc g q arcs k.are l admitted in
-      let a = h.arc in
-      let unused : is_used us h.place ≡ false = not_used h.place l h.at_link lacks in
-      let here : a.head ≡ v = same_place g.nodes k.valid.nodes_differ a.head v l.to h.head at_v in
-      let near : at ds a.head < UNREACHED = omega (arith, first_reached arcs rs place ds ls us k.left v reached, ap (at ds) here) in
-      let is_r : IsArc rs h.place (residual_arc ds false a) =
-      stays arcs rs place ds ls us k.left h.place a h.is_arc near ∙ ap (λ u. Some (residual_arc ds u a)) unused in
+  -- the arc of an admitted link, turned round where it is in use
+  across : (l : Link) (v : ℕ) (b : Bool) (h : HasArc g q arcs l) → is_used us h.place ≡ b → at ds h.arc.head < UNREACHED → slice_get g.nodes (residual_arc ds b h.arc).tail ≡ Some (beside q b l).from →
+      (residual_arc ds b h.arc).head ≡ v → Crossing (beside q b l) v
+  across l v b h is near tail here =
+      let r = residual_arc ds b h.arc in
+      let is_r : IsArc rs h.place r = stays arcs rs place ds ls us k.left h.place h.arc h.is_arc near ∙ ap (λ u. Some (residual_arc ds u h.arc)) is in
       record {
         index = h.place;
-        arc = residual_arc ds false a;
+        arc = r;
         is_arc = is_r;
         link = l;
         at_link = h.at_link;
-        tail = h.tail;
+        tail = tail;
         head = here;
-        same_weight = link_weight h.place (residual_arc ds false a) is_r l h.at_link;
-        is = ap (λ u. beside q u l) (sym unused);
+        same_weight = link_weight h.place r is_r l h.at_link;
+        is = ap (λ u. beside q u l) (sym is);
       }
+
+  straight_arc : (l : Link) (v : ℕ) → AdmitsLink g q l → ¬ Contains walk l → slice_get g.nodes v ≡ Some l.to → at ls v < UNREACHED → Crossing (taken q l) v
+  straight_arc l v admitted lacks at_v reached =
+      let h = admitted_arc g q arcs k.are l admitted in
+      let here : h.arc.head ≡ v = same_place g.nodes k.valid.nodes_differ h.arc.head v l.to h.head at_v in
+      across l v false h (not_used h.place l h.at_link lacks) (omega (arith, first_reached arcs rs place ds ls us k.left v reached, ap (at ds) here)) h.tail here
 
   turned_arc : (l : Link) (v : ℕ) → AdmitsLink g q l → Contains walk l → slice_get g.nodes v ≡ Some l.from → at ls v < UNREACHED → Crossing (turned q l) v
   turned_arc l v admitted has at_v reached =
       let h = admitted_arc g q arcs k.are l admitted in
-      let a = h.arc in
       let used : is_used us h.place ≡ true = (k.marked h.place l h.at_link).1 has in
-      let here : a.tail ≡ v = same_place g.nodes k.valid.nodes_differ a.tail v l.from h.tail at_v in
-      let t' = k.left.used_tight h.place a h.is_arc used in
-      let near : at ds a.head < UNREACHED = omega (arith, t'.sum, t'.reached) in
-      let is_r : IsArc rs h.place (residual_arc ds true a) =
-      stays arcs rs place ds ls us k.left h.place a h.is_arc near ∙ ap (λ u. Some (residual_arc ds u a)) used in
-      record {
-        index = h.place;
-        arc = residual_arc ds true a;
-        is_arc = is_r;
-        link = l;
-        at_link = h.at_link;
-        tail = h.head;
-        head = here;
-        same_weight = link_weight h.place (residual_arc ds true a) is_r l h.at_link;
-        is = ap (λ u. beside q u l) (sym used);
-      }
+      let tight = k.left.used_tight h.place h.arc h.is_arc used in
+      across l v true h used (omega (arith, tight.sum, tight.reached)) h.head (same_place g.nodes k.valid.nodes_differ h.arc.tail v l.from h.tail at_v)
 
   crossing : (o : Residual) (v : ℕ) → IsResidual g q walk o → slice_get g.nodes v ≡ Some o.to → at ls v < UNREACHED → Crossing o v
   crossing o v is at_v reached =

@@ -1,10 +1,10 @@
 -- The arcs that may still lower a distance, as nodes are settled.
-use Rattle.std.proofs.Common.{◌≡◌, ◌≢◌, inl, inr, ℕ, ◌+◌, ◌<◌, ◌≤◌, Bool, true, false, List, [], ◌∷◌, ◌++◌, length, arith, refl, sym, ◌∙◌, ap, subst, replicate}
+use Rattle.std.proofs.Common.{◌≡◌, ◌≢◌, inl, inr, ℕ, ◌+◌, ◌<◌, ◌≤◌, Bool, true, false, List, [], ◌∷◌, ◌++◌, length, arith, refl, sym, ◌∙◌, ap, subst}
 use Rattle.std.specs.Prelude.{Contains, slice_set, nat_lt}
 use Rattle.std.specs.declared.option.Option.{Option}
 use Rattle.std.proofs.lemmas.Bool.{lt-ltb}
 use Rattle.std.proofs.lemmas.Bool.Decides.{eqb_tells}
-use Rattle.std.proofs.lemmas.List.{get_or-set_same, get_or-set_other, get_or-replicate, length-replicate, append-nil, append_assoc}
+use Rattle.std.proofs.lemmas.List.{get_or-set_same, get_or-set_other, append-nil, append_assoc}
 use Rattle.std.proofs.lemmas.List.Elements.{Contains-append_cases, Contains-push_cases}
 use Rattle.std.proofs.Math.ListN.{length-set}
 use Rattle.std.proofs.lemmas.List.Sums.{sum_by-set}
@@ -45,25 +45,6 @@ put_on ws node d inside =
 
 only : (i j : ℕ) → Contains (i ∷ []) j → i ≡ j
 only i j has = elim (Contains-push_cases [] i j has) [ inl nothing ↦ absurd (omega (arith, nothing.1)) | inr one ↦ one ]
-
--- nothing changes over an arc that is low, or leads elsewhere
-pub nothing_falls : (arcs : List (Option Arc)) (t v i : ℕ) (ds new ws : List ℕ) → new ≡ ds → ((a : Arc) → IsArc arcs i a → a.head ≡ v → IsLow ds a) → Spreads arcs t v (i ∷ []) ds new ws ws
-nothing_falls arcs t v i ds new ws same low =
-    subst (λ n. Spreads arcs t v (i ∷ []) ds n ws ws) (sym same)
-    (record {
-      keeps = record { long = refl; as_long = refl; made = λ made. made; less = omega arith };
-      left = λ made more left j a is_arc.
-          elim (left j a is_arc) [
-            | inl is_low ↦ inl is_low
-            | inr rest ↦ elim rest [
-              | inl waits ↦ inr (inl waits)
-              | inr last ↦ elim (Contains-append_cases (i ∷ []) more j last.1) [
-                | inl first ↦ inl (low a (subst (λ k. IsArc arcs k a) (sym (only i j first)) is_arc) last.0)
-                | inr later ↦ inr (inr (last.0, later))
-              ]
-            ]
-          ];
-    })
 
 -- over an arc that lowers a distance the node at its beginning waits
 pub one_falls : (arcs : List (Option Arc)) (t v i : ℕ) (a : Arc) (ds new ws : List ℕ) → IsArc arcs i a → IsAmong (length ds) a → length ws ≡ length ds → a.head ≡ v → Lowers a ds new →
@@ -109,12 +90,6 @@ one_falls arcs t v i a ds new ws is_arc among as_long to_v low = record {
 
     itself : IsLow new a
     itself = omega (arith, here arcs t i a ds new is_arc among low, others arcs t i a ds new is_arc among low a.head apart)
-
-pub none_spread : (arcs : List (Option Arc)) (t v : ℕ) (ds ws : List ℕ) → Spreads arcs t v [] ds ds ws ws
-none_spread arcs t v ds ws = record {
-  keeps = record { long = refl; as_long = refl; made = λ made. made; less = omega arith };
-  left = λ made more left. left;
-}
 
 -- one place after others
 pub spread_more : (arcs : List (Option Arc)) (t v i : ℕ) (places old now new waiting then next : List ℕ) → Spreads arcs t v places old now waiting then → Spreads arcs t v (i ∷ []) now new then next →
@@ -165,23 +140,6 @@ taken_out arcs node ds ws rests i a is_arc =
         | inl same ↦ inr (inr same.1)
         | inr other ↦ inr (inl (omega (arith, waits, get_or-set_other ws node a.head UNREACHED 0 other.1)))
       ]
-    ]
-
--- at first the target alone waits
-pub first_rests : (arcs : List (Option Arc)) (nodes t : ℕ) → AreAmong nodes arcs → t < nodes → IsResting arcs (slice_set (replicate nodes UNREACHED) t 0) (slice_set (replicate nodes UNREACHED) t 0)
-first_rests arcs nodes t among inside i a is_arc =
-    let good = among i a is_arc in
-    let long = length-replicate nodes UNREACHED in
-    elim (eqb_tells a.head t) [
-      | inl same ↦ inr (omega (arith, ap (at (slice_set (replicate nodes UNREACHED) t 0)) same.1, get_or-set_same (replicate nodes UNREACHED) t 0 0 (omega (arith, inside, long))))
-      | inr other ↦
-          let head = get_or-set_other (replicate nodes UNREACHED) t a.head 0 0 other.1 in
-          let is_far = get_or-replicate nodes a.head UNREACHED 0 good.head in
-          elim (eqb_tells a.tail t) [
-            | inl same ↦ inl (omega (arith, ap (at (slice_set (replicate nodes UNREACHED) t 0)) same.1, get_or-set_same (replicate nodes UNREACHED) t 0 0 (omega (arith, inside, long))))
-            | inr apart ↦
-                inl (omega (arith, head, is_far, get_or-set_other (replicate nodes UNREACHED) t a.tail 0 0 apart.1, get_or-replicate nodes a.tail UNREACHED 0 good.tail))
-          ]
     ]
 
 -- where none waits no distance can be lowered

@@ -37,13 +37,6 @@ pub record CutSoFar (g : Rows) (distances : List ℕ) (k : ℕ) (nodes : List Ad
   pub whole : (i : ℕ) (n : Addr) → i < k → IsCutOff g distances i n → Contains nodes n
   pub sound : (n : Addr) → Contains nodes n → (i : ℕ) × (i < k) × IsCutOff g distances i n
 
-pub none_cut : (g : Rows) (distances : List ℕ) → CutSoFar g distances 0 []
-none_cut g distances = record {
-  rising = λ i j d before below. absurd (omega arith);
-  whole = λ i n before. absurd (omega arith);
-  sound = λ n has. absurd (omega (arith, has.1));
-}
-
 pub cut_more : (g : Rows) (distances : List ℕ) (k : ℕ) (nodes : List Addr) (n : Addr) → IsInOrder g → CutSoFar g distances k nodes → slice_get g.nodes k ≡ Some n → at distances k ≡ UNREACHED →
     CutSoFar g distances (k + 1) (nodes ++ n ∷ [])
 cut_more g distances k nodes n order c at_k lacks = record {

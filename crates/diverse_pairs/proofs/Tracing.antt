@@ -2,7 +2,7 @@
 use Rattle.std.proofs.Common.{◌≡◌, ◌≢◌, inl, inr, ℕ, suc, ◌+◌, ◌<◌, ◌≤◌, List, [], ◌∷◌, ◌++◌, length, take, drop, map, get_or, refl, sym, ◌∙◌, ap, subst, arith, Some, append_assoc, length-append}
 use Rattle.std.specs.Prelude.{All, AllPairs, Contains}
 use Rattle.std.proofs.lemmas.Bool.{cases_lt}
-use Rattle.std.proofs.lemmas.List.{get_or_default, get_or_append_left, get_or_at, get_or-map, length-map, length_push, length-take-le, take_all, take-take, take_more, take-append-drop, append-nil}
+use Rattle.std.proofs.lemmas.List.{get_or_default, get_or_append_left, get_or_at, get_or-map, length-map, length_push, length-take-le, take_all, take-take, take_more, take-append-drop}
 use Rattle.std.proofs.lemmas.List.Elements.{All-nil, All-cons, All-contains_itself}
 use Rattle.std.proofs.lemmas.List.Quantifiers.{all_pairs_push}
 use Rattle.dom_base.specs.declared.addr.Addr.{Addr}
@@ -142,10 +142,6 @@ goes_on g q used s fars k m u far below is traces step new =
       leads = subst (λ xs. LeadsAlong g q s xs u) (sym more) (lead_on g q (take k fars) (far ∷ []) s m u traces.leads (step_leads g q m far u step));
       new = subst (AllPairs (λ a b. a ≢ b)) (sym (one_more used fars k far below is)) (push_differs (used ++ take k fars) far traces.new new);
     }
-
--- at first nothing is traced
-pub none_traced : (g : Rows) (q : Query) (used : List Addr) (s : Addr) (fars : List Addr) → AdmitsNode g q s → AllPairs (λ a b. a ≢ b) used → Traces g q used s (take 0 fars) s
-none_traced g q used s fars admitted differ = record { leads = (refl, admitted); new = subst (AllPairs (λ a b. a ≢ b)) (sym (append-nil used)) differ }
 
 -- all far addresses lead elsewhere
 pub not_ended : (g : Rows) (q : Query) (used : List Addr) (s t : Addr) (fars : List Addr) (k : ℕ) (m : Addr) → IsInOrder g → length fars ≤ k → Traces g q used s (take k fars) m →

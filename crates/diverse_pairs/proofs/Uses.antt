@@ -9,9 +9,9 @@ use Rattle.diverse_pairs.specs.declared.arcs.Arc.{Arc}
 use Rattle.diverse_pairs.specs.declared.arcs.TheConstants.{UNREACHED}
 use Rattle.diverse_pairs.specs.Arcs.{IsArc, at, is_used}
 use Rattle.diverse_pairs.specs.Distances.{IsTight, AreTight}
-use Rattle.diverse_pairs.specs.Uses.{HasNoneAt, IsUsedAt, tight_mark, tight_marks}
-use Rattle.diverse_pairs.specs.Listed.{BeginsAt, BeginsElsewhere}
-use Rattle.diverse_pairs.proofs.Lowering.{arc_within, one_arc}
+use Rattle.diverse_pairs.specs.Uses.{HasNoneAt, tight_mark, tight_marks}
+use Rattle.diverse_pairs.specs.Listed.{BeginsElsewhere}
+use Rattle.diverse_pairs.proofs.Lowering.{arc_within}
 use Rattle.diverse_pairs.proofs.FirstAmong.{HasNoneBefore}
 
 tight_if : (ds : List ℕ) (a : Arc) → tight_mark ds (Some a) ≡ true → IsTight ds a
@@ -41,21 +41,9 @@ tight_marked ds arcs i a is_arc = (
   λ t. mark_there ds arcs i a is_arc ∙ if_tight ds a t,
 )
 
--- an arc that is not tight is not in use
-pub loose_here : (ds : List ℕ) (arcs : List (Option Arc)) (from i : ℕ) (a : Arc) → IsArc arcs i a → (IsTight ds a → ⊥) → HasNoneAt arcs (tight_marks ds arcs) from i
-loose_here ds arcs from i a is_arc loose b is_b used tail = loose (subst (IsTight ds) (one_arc arcs i b a is_b is_arc) ((tight_marked ds arcs i b is_b).0 used))
-
--- a tight one that begins at the node is
-pub tight_here : (ds : List ℕ) (arcs : List (Option Arc)) (from i : ℕ) (a : Arc) → BeginsAt arcs i from a → IsTight ds a → IsUsedAt arcs (tight_marks ds arcs) from i a
-tight_here ds arcs from i a begins tight = (begins.0, (tight_marked ds arcs i a begins.0).1 tight, begins.1)
-
 -- where none begins at the node, none in use does
 pub none_here : (arcs : List (Option Arc)) (marks : List Bool) (from i : ℕ) → BeginsElsewhere arcs i from → HasNoneAt arcs marks from i
 none_here arcs marks from i elsewhere a is_a used tail = elsewhere a is_a tail
-
--- one without a mark is not in use
-pub unmarked_here : (arcs : List (Option Arc)) (marks : List Bool) (from i : ℕ) → is_used marks i ≡ false → HasNoneAt arcs marks from i
-unmarked_here arcs marks from i unused a is_a used tail = let bad : false ≡ true = sym unused ∙ used in cc
 
 -- one more place has none that begins at the node
 pub none_more : (arcs : List (Option Arc)) (marks : List Bool) (from : ℕ) (places : List ℕ) (k : ℕ) → HasNoneBefore arcs marks from places k →

@@ -10,14 +10,14 @@ use Rattle.plant_model.specs.Types.{Exclusion, Addr, Hop, Body, Object, Bad, Mes
 use Rattle.dom_base.specs.declared.query.Excluded.TheVariants as excluded
 use Rattle.dom_base.specs.declared.addr.Addr.TheVariants.{V4, V6}
 use Rattle.dom_base.specs.declared.query.Excluded.{Excluded}
-use Rattle.dom_base.specs.Parts.{half_at, word_at}
+use Rattle.dom_base.specs.Parts.{half_at, word_at, parts}
 use Rattle.dom_base.specs.Words.{is_malformed}
 use Rattle.pcep_subobjects.specs.declared.hop.HopFault.{HopFault}
 use Rattle.pcep_subobjects.specs.declared.hop.HopFault.TheVariants as hop_faults
 use Rattle.pcep_subobjects.specs.declared.hop.Hop.TheVariants as hops
-use Rattle.pcep_subobjects.specs.Hops.{hop_has_length, hop_of, hop_at, hops_of}
+use Rattle.pcep_subobjects.specs.Hops.{hop_has_length, hop_of, hops_of}
 use Rattle.pcep_subobjects.specs.Addresses.{wide_at, long_at, bits_of, IsAddr}
-use Rattle.pcep_subobjects.specs.Subobjects.{is_whole_words, AreOctets}
+use Rattle.pcep_subobjects.specs.Subobjects.{is_whole_words, AreOctets, subobject_at}
 use Rattle.pcep_subobjects.specs.Exclusions as exclusions
 use Rattle.pcep_subobjects.specs.Exclusions.{exclusion_has_length, exclusion_of, exclusion_at, exclusions_of, is_exclusion_kind}
 use Rattle.pcep_objects.specs.declared.object.Body.TheVariants as bodies
@@ -32,7 +32,8 @@ use Rattle.pcep_messages.specs.declared.message.Message.TheVariants as messages
 use Rattle.pcep_messages.specs.declared.groups.Closer.TheVariants as closers
 use Rattle.pcep_messages.specs.declared.groups.Closer.{Closer}
 use Rattle.pcep_messages.specs.Groups.{is_rp, cut, closes_by, begin_with, go_on_with, asked_of, requests_of, first_said, reply_groups, reply_of, report_groups, report_of}
-use Rattle.pcep_messages.specs.Messages.{placed, member_at, members_of, content_of, message_of}
+use Rattle.pcep_messages.specs.Messages.{placed, member_at, members_of, content_of, message_of, made_of, made_by_all}
+use Rattle.pcep_messages.specs.Spelling.{kind_of}
 use Rattle.pcep_messages.specs.Said.{with_bit, first_with_bit, end_points_in, end_points_of, is_passed_over}
 use Rattle.plant_model.specs.Wire.{Bytes}
 use Rattle.plant_model.specs.RealWire.{message_or_none}
@@ -75,6 +76,44 @@ wide_fits bytes all k = sixteen (long_at bytes k) (long_at bytes (k + 8)) (long 
     sixteen : (a b : ℕ) → a < 2 ^ 64 → b < 2 ^ 64 → 18446744073709551616 * a + b < 2 ^ 128
     sixteen a b p q = omega (arith, p, q)
 
+no_fault : {A E : Type 0} (f : E) (a : A) → ◌≡◌ {A = Result A E} (Err f) (Ok a) → ⊥
+no_fault f a h = cc
+
+same_read : {A E : Type 0} (a b : A) → ◌≡◌ {A = Result A E} (Ok a) (Ok b) → a ≡ b
+same_read a b h = cc
+
+not_read : (m : Message) → ◌≡◌ {A = Option Message} None (Some m) → ⊥
+not_read m h = cc
+
+-- ---- subobjects
+
+-- What holds of a subobject of octets holds of what is read of them.
+module _ {X : Type 0} (P : X → Type 0) (has_length : ℕ → ℕ → Bool) (meaning : Bool → ℕ → Bytes → X)
+    (meant : (bit : Bool) (kind n : ℕ) (content : Bytes) → kind < 128 → n < 256 → AreOctets content → (2 ≤ n → length content + 2 ≡ n) → has_length kind n ≡ true → P (meaning bit kind content)) where
+  read_has : (bytes : Bytes) (x : X) (len : ℕ) → AreOctets bytes → subobject_at has_length meaning bytes ≡ Ok (x, len) → P x
+  read_has [] x len all e = absurd (no_fault hop_faults.Short (x, len) e)
+  read_has (a ∷ []) x len all e = absurd (no_fault hop_faults.Short (x, len) e)
+  read_has (first ∷ n ∷ bytes) x len all e = go (nat_lt (length bytes + 2) n) refl (has_length (first % 128) n) refl e
+    where
+      behind : AreOctets (n ∷ bytes)
+      behind = tail_bytes first (n ∷ bytes) all
+
+      made : X
+      made = meaning (nat_le 128 first) (first % 128) (take (n - 2) bytes)
+
+      go : (a : Bool) → nat_lt (length bytes + 2) n ≡ a → (b : Bool) → has_length (first % 128) n ≡ b →
+          cond {A = Result (X × ℕ) (ℕ → HopFault)} a (Err hop_faults.Short) (cond b (Ok (made, n)) (Err hop_faults.BadLength)) ≡ Ok (x, len) → P x
+      go true a' b b' h = absurd (no_fault hop_faults.Short (x, len) h)
+      go false a' false b' h = absurd (no_fault hop_faults.BadLength (x, len) h)
+      go false a' true b' h =
+          let within : n ≤ length bytes + 2 = ltb-false (length bytes + 2) n a' in
+          subst P (ap (λ (p : X × ℕ). p.0) (same_read (made, n) (x, len) h))
+          (meant (nat_le 128 first) (first % 128) n (take (n - 2) bytes) (omega arith) (All-head (λ (b : ℕ). b < 256) n bytes behind) (All-take (λ (b : ℕ). b < 256) (n - 2) bytes (tail_bytes n bytes behind))
+          (λ two. omega (arith, length-take (n - 2) bytes, within, two)) b')
+
+  all_have : (bytes : Bytes) (xs : List X) → AreOctets bytes → parts (subobject_at has_length meaning) bytes ≡ Ok xs → AllByRecursion P xs
+  all_have bytes xs all e = all_from (subobject_at has_length meaning) AreOctets P tail_bytes (λ b x len q h. read_has b x len q h) 0 0 bytes xs all e
+
 -- ---- exclusions
 
 kept_is : (avoid : Bool) (kind n : ℕ) (content : Bytes) → kind < 128 → n < 256 → AreOctets content → (2 ≤ n → length content + 2 ≡ n) → exclusion_has_length kind n ≡ true → exclusions.IsWritten (exclusion_of avoid kind content)
@@ -105,42 +144,8 @@ kept_is avoid kind n content low fits all long e = go (kind == 1) refl (kind == 
         let other : is_exclusion_kind kind ≡ false = or_from (kind == 1) _ a' (or_from (kind == 2) _ d' (or_from (kind == 32) _ b' (or_from (kind == 34) false c' refl))) in
         (other, (low, omega (arith, l, w.1), omega (arith, l, w.0, fits), omega (arith, l, w.0), all))
 
-exclusion_is : (x y : Exclusion × ℕ) → ◌≡◌ {A = Result (Exclusion × ℕ) (ℕ → HopFault)} (Ok x) (Ok y) → x ≡ y
-exclusion_is x y e = cc
-
-exclusion_kept : (bytes : Bytes) (x : Exclusion) (len : ℕ) → AreOctets bytes → exclusion_at bytes ≡ Ok (x, len) → exclusions.IsWritten x
-exclusion_kept [] x len all e = absurd (no e)
-  where
-    no : ◌≡◌ {A = Result (Exclusion × ℕ) (ℕ → HopFault)} (Err hop_faults.Short) (Ok (x, len)) → ⊥
-    no h = cc
-exclusion_kept (a ∷ []) x len all e = absurd (no e)
-  where
-    no : ◌≡◌ {A = Result (Exclusion × ℕ) (ℕ → HopFault)} (Err hop_faults.Short) (Ok (x, len)) → ⊥
-    no h = cc
-exclusion_kept (first ∷ n ∷ bytes) x len all e = go (nat_lt (length bytes + 2) n) refl (exclusion_has_length (first % 128) n) refl e
-  where
-    behind : AreOctets (n ∷ bytes)
-    behind = tail_bytes first (n ∷ bytes) all
-
-    no : (f : ℕ → HopFault) → ◌≡◌ {A = Result (Exclusion × ℕ) (ℕ → HopFault)} (Err f) (Ok (x, len)) → ⊥
-    no f h = cc
-
-    made : Exclusion
-    made = exclusion_of (nat_le 128 first) (first % 128) (take (n - 2) bytes)
-
-    go : (a : Bool) → nat_lt (length bytes + 2) n ≡ a → (b : Bool) → exclusion_has_length (first % 128) n ≡ b →
-        cond {A = Result (Exclusion × ℕ) (ℕ → HopFault)} a (Err hop_faults.Short) (cond b (Ok (made, n)) (Err hop_faults.BadLength)) ≡ Ok (x, len) → exclusions.IsWritten x
-    go true a' b b' h = absurd (no hop_faults.Short h)
-    go false a' false b' h = absurd (no hop_faults.BadLength h)
-    go false a' true b' h =
-        let within : n ≤ length bytes + 2 = ltb-false (length bytes + 2) n a' in
-        let same : made ≡ x = ap (λ (p : Exclusion × ℕ). p.0) (exclusion_is (made, n) (x, len) h) in
-        subst exclusions.IsWritten same
-        (kept_is (nat_le 128 first) (first % 128) n (take (n - 2) bytes) (omega arith) (All-head (λ (b : ℕ). b < 256) n bytes behind) (All-take (λ (b : ℕ). b < 256) (n - 2) bytes (tail_bytes n bytes behind))
-        (λ two. omega (arith, length-take (n - 2) bytes, within, two)) b')
-
 exclusions_kept : (bytes : Bytes) (xs : List Exclusion) → AreOctets bytes → exclusions_of bytes ≡ Ok xs → AllByRecursion exclusions.IsWritten xs
-exclusions_kept bytes xs all e = all_from exclusion_at AreOctets exclusions.IsWritten tail_bytes (λ b x len q h. exclusion_kept b x len q h) 0 0 bytes xs all e
+exclusions_kept bytes xs all e = all_have exclusions.IsWritten exclusion_has_length exclusion_of kept_is bytes xs all e
 
 -- ---- hops
 
@@ -150,9 +155,6 @@ HopIsSound (hops.Prefix loose addr length) = IsAddr addr
 HopIsSound (hops.AsNumber loose number) = number.0 < 2 ^ 16
 HopIsSound (hops.Key loose key pce) = (key < 2 ^ 16) × IsAddr pce
 HopIsSound (hops.Other loose kind body) = Unit {0}
-
-hop_is : (x y : Hop × ℕ) → ◌≡◌ {A = Result (Hop × ℕ) (ℕ → HopFault)} (Ok x) (Ok y) → x ≡ y
-hop_is x y e = cc
 
 meant_sound : (loose : Bool) (kind : ℕ) (content : Bytes) → AreOctets content → HopIsSound (hop_of loose kind content)
 meant_sound loose kind content all = go (kind == 1) (kind == 2) (kind == 32) (kind == 64) (kind == 65)
@@ -173,32 +175,8 @@ meant_sound loose kind content all = go (kind == 1) (kind == 2) (kind == 32) (ki
     go false false false false true = (half_fits content all 0, wide_fits content all 2)
     go false false false false false = tt
 
-hop_sound : (bytes : Bytes) (x : Hop) (len : ℕ) → AreOctets bytes → hop_at bytes ≡ Ok (x, len) → HopIsSound x
-hop_sound [] x len all e = absurd (no e)
-  where
-    no : ◌≡◌ {A = Result (Hop × ℕ) (ℕ → HopFault)} (Err hop_faults.Short) (Ok (x, len)) → ⊥
-    no h = cc
-hop_sound (a ∷ []) x len all e = absurd (no e)
-  where
-    no : ◌≡◌ {A = Result (Hop × ℕ) (ℕ → HopFault)} (Err hop_faults.Short) (Ok (x, len)) → ⊥
-    no h = cc
-hop_sound (first ∷ n ∷ bytes) x len all e = go (nat_lt (length bytes + 2) n) (hop_has_length (first % 128) n) e
-  where
-    no : (f : ℕ → HopFault) → ◌≡◌ {A = Result (Hop × ℕ) (ℕ → HopFault)} (Err f) (Ok (x, len)) → ⊥
-    no f h = cc
-
-    made : Hop
-    made = hop_of (nat_le 128 first) (first % 128) (take (n - 2) bytes)
-
-    go : (a b : Bool) → cond {A = Result (Hop × ℕ) (ℕ → HopFault)} a (Err hop_faults.Short) (cond b (Ok (made, n)) (Err hop_faults.BadLength)) ≡ Ok (x, len) → HopIsSound x
-    go true b h = absurd (no hop_faults.Short h)
-    go false false h = absurd (no hop_faults.BadLength h)
-    go false true h =
-        subst HopIsSound (ap (λ (p : Hop × ℕ). p.0) (hop_is (made, n) (x, len) h))
-        (meant_sound (nat_le 128 first) (first % 128) (take (n - 2) bytes) (All-take (λ (b : ℕ). b < 256) (n - 2) bytes (tail_bytes n bytes (tail_bytes first (n ∷ bytes) all))))
-
 hops_sound : (bytes : Bytes) (xs : List Hop) → AreOctets bytes → hops_of bytes ≡ Ok xs → AllByRecursion HopIsSound xs
-hops_sound bytes xs all e = all_from hop_at AreOctets HopIsSound tail_bytes (λ b x len q h. hop_sound b x len q h) 0 0 bytes xs all e
+hops_sound bytes xs all e = all_have HopIsSound hop_has_length hop_of (λ loose kind n content low fits octets long has. meant_sound loose kind content octets) bytes xs all e
 
 -- ---- bodies
 
@@ -279,26 +257,11 @@ module _ (Q : ℕ → Body → Type 0) (bodies_have : (content : Bytes) → AreO
   abbrev pub Has : Object → Type 0
   Has o = Q o.kind o.body
 
-  object_is : (x y : Object × ℕ) → ◌≡◌ {A = Result (Object × ℕ) (ℕ → Bad)} (Ok x) (Ok y) → x ≡ y
-  object_is x y e = cc
-
   object_has : (bytes : Bytes) (o : Object) (len : ℕ) → AreOctets bytes → member_at bytes ≡ Ok (o, len) → Has o
-  object_has [] o len all e = absurd (no e)
-    where
-      no : ◌≡◌ {A = Result (Object × ℕ) (ℕ → Bad)} (Err Malformed) (Ok (o, len)) → ⊥
-      no h = cc
-  object_has (a ∷ []) o len all e = absurd (no e)
-    where
-      no : ◌≡◌ {A = Result (Object × ℕ) (ℕ → Bad)} (Err Malformed) (Ok (o, len)) → ⊥
-      no h = cc
-  object_has (a ∷ b ∷ []) o len all e = absurd (no e)
-    where
-      no : ◌≡◌ {A = Result (Object × ℕ) (ℕ → Bad)} (Err Malformed) (Ok (o, len)) → ⊥
-      no h = cc
-  object_has (a ∷ b ∷ c ∷ []) o len all e = absurd (no e)
-    where
-      no : ◌≡◌ {A = Result (Object × ℕ) (ℕ → Bad)} (Err Malformed) (Ok (o, len)) → ⊥
-      no h = cc
+  object_has [] o len all e = absurd (no_fault Malformed (o, len) e)
+  object_has (a ∷ []) o len all e = absurd (no_fault Malformed (o, len) e)
+  object_has (a ∷ b ∷ []) o len all e = absurd (no_fault Malformed (o, len) e)
+  object_has (a ∷ b ∷ c ∷ []) o len all e = absurd (no_fault Malformed (o, len) e)
   object_has (class ∷ second ∷ high ∷ low ∷ bytes) o len all e =
       go (nat_lt (length bytes + 4) n) (nat_lt n 4) (n % 4 == 0) (body_of class (second / 16) (take (n - 4) bytes)) (bodies_have (take (n - 4) bytes) content class (second / 16)) e
     where
@@ -319,7 +282,7 @@ module _ (Q : ℕ → Body → Type 0) (bodies_have : (content : Bytes) → AreO
       go false false true None s h = absurd (no h)
       go false false true (Some body) s h =
           let made : Object = record { class = class; kind = second / 16; must = second / 2 % 2 == 1; body = body } in
-          subst Has (ap (λ (x : Object × ℕ). x.0) (object_is (made, n) (o, len) h)) s
+          subst Has (ap (λ (x : Object × ℕ). x.0) (same_read (made, n) (o, len) h)) s
 
   members_have : (content : Bytes) (os : List Object) → AreOctets content → members_of content ≡ Ok os → AllByRecursion Has os
   members_have content os all e = all_from member_at AreOctets Has tail_bytes (λ b o len q h. object_has b o len q h) 4 0 content os all e
@@ -336,30 +299,24 @@ module _ (Q : ℕ → Body → Type 0) (bodies_have : (content : Bytes) → AreO
       go true false more = (all.0, more (false || closes_by by o))
       go false c more = (all.0, more (c || closes_by by o))
 
-  pub request_has : (bytes : Bytes) (a : Asked) → AreOctets bytes → message_or_none (message_of bytes) ≡ Some (messages.PcReq (a ∷ [])) → AllByRecursion Has a.objects
-  request_has [] a all e = absurd (no e)
-    where
-      no : ◌≡◌ {A = Option Message} None (Some (messages.PcReq (a ∷ []))) → ⊥
-      no h = cc
-  request_has (x ∷ []) a all e = absurd (no e)
-    where
-      no : ◌≡◌ {A = Option Message} None (Some (messages.PcReq (a ∷ []))) → ⊥
-      no h = cc
-  request_has (x ∷ y ∷ []) a all e = absurd (no e)
-    where
-      no : ◌≡◌ {A = Option Message} None (Some (messages.PcReq (a ∷ []))) → ⊥
-      no h = cc
-  request_has (x ∷ y ∷ z ∷ []) a all e = absurd (no e)
-    where
-      no : ◌≡◌ {A = Option Message} None (Some (messages.PcReq (a ∷ []))) → ⊥
-      no h = cc
-  request_has (first ∷ kind ∷ high ∷ low ∷ content) a all e =
-      let m : Message = messages.PcReq (a ∷ []) in
-      let at : kind ≡ 3 = frame_kind first kind high low content m e in
+  -- the objects of which a message is made
+  objects_have : (n : ℕ) → ((content : Bytes) → content_of n content ≡ made_by_all n (members_of content)) → (bytes : Bytes) (m : Message) → kind_of m ≡ n → AreOctets bytes →
+      message_or_none (message_of bytes) ≡ Some m → (os : List Object) × AllByRecursion Has os × (made_of n os ≡ m)
+  objects_have n whole [] m is all e = absurd (not_read m e)
+  objects_have n whole (x ∷ []) m is all e = absurd (not_read m e)
+  objects_have n whole (x ∷ y ∷ []) m is all e = absurd (not_read m e)
+  objects_have n whole (x ∷ y ∷ z ∷ []) m is all e = absurd (not_read m e)
+  objects_have n whole (first ∷ kind ∷ high ∷ low ∷ content) m is all e =
+      let at : kind ≡ n = frame_kind first kind high low content m e ∙ is in
       let frame = frame_is first kind high low content m e in
-      let is = all_is 3 (members_of content) m (ap (λ k. message_or_none (content_of k content)) (sym at) ∙ frame.is) in
+      let found = all_is n (members_of content) m (ap message_or_none (sym (whole content)) ∙ ap (λ k. message_or_none (content_of k content)) (sym at) ∙ frame.is) in
       let bytes : AreOctets content = tail_bytes low content (tail_bytes high (low ∷ content) (tail_bytes kind (high ∷ low ∷ content) (tail_bytes first (kind ∷ high ∷ low ∷ content) all))) in
-      subst (λ (os : List Object). AllByRecursion Has os) (front_is is.0 is.2) (front_has closers.Rp false is.0 (members_have content is.0 bytes is.1))
+      (found.0, members_have content found.0 bytes found.1, found.2)
+
+  pub request_has : (bytes : Bytes) (a : Asked) → AreOctets bytes → message_or_none (message_of bytes) ≡ Some (messages.PcReq (a ∷ [])) → AllByRecursion Has a.objects
+  request_has bytes a all e =
+      let made = objects_have 3 (λ content. refl) bytes (messages.PcReq (a ∷ [])) refl all e in
+      subst (λ (os : List Object). AllByRecursion Has os) (front_is made.0 made.2) (front_has closers.Rp false made.0 made.1)
     where
       front_is : (os : List Object) → messages.PcReq (map asked_of (requests_of os)) ≡ messages.PcReq (a ∷ []) → (cut (closes_by closers.Rp) false os).0 ≡ a.objects
       front_is os h = ap (λ (x : Asked). x.objects) (head_is (asked_of (cut (closes_by closers.Rp) false os).0) (map asked_of (cut (closes_by closers.Rp) false os).1) h)
@@ -381,29 +338,9 @@ module _ (Q : ℕ → Body → Type 0) (bodies_have : (content : Bytes) → AreO
   -- the objects of each reply
   pub replies_have : (bytes : Bytes) (rs : List Reply) → AreOctets bytes → message_or_none (message_of bytes) ≡ Some (messages.PcRep rs) →
       (groups : List (List Object)) × AllByRecursion (AllByRecursion Has) groups × (filter_map reply_of groups ≡ rs)
-  replies_have [] rs all e = absurd (no e)
-    where
-      no : ◌≡◌ {A = Option Message} None (Some (messages.PcRep rs)) → ⊥
-      no h = cc
-  replies_have (x ∷ []) rs all e = absurd (no e)
-    where
-      no : ◌≡◌ {A = Option Message} None (Some (messages.PcRep rs)) → ⊥
-      no h = cc
-  replies_have (x ∷ y ∷ []) rs all e = absurd (no e)
-    where
-      no : ◌≡◌ {A = Option Message} None (Some (messages.PcRep rs)) → ⊥
-      no h = cc
-  replies_have (x ∷ y ∷ z ∷ []) rs all e = absurd (no e)
-    where
-      no : ◌≡◌ {A = Option Message} None (Some (messages.PcRep rs)) → ⊥
-      no h = cc
-  replies_have (first ∷ kind ∷ high ∷ low ∷ content) rs all e =
-      let m : Message = messages.PcRep rs in
-      let at : kind ≡ 4 = frame_kind first kind high low content m e in
-      let frame = frame_is first kind high low content m e in
-      let is = all_is 4 (members_of content) m (ap (λ k. message_or_none (content_of k content)) (sym at) ∙ frame.is) in
-      let bytes : AreOctets content = tail_bytes low content (tail_bytes high (low ∷ content) (tail_bytes kind (high ∷ low ∷ content) (tail_bytes first (kind ∷ high ∷ low ∷ content) all))) in
-      (reply_groups is.0, behind_has closers.Rp true is.0 (members_have content is.0 bytes is.1), replies_are (filter_map reply_of (reply_groups is.0)) rs is.2)
+  replies_have bytes rs all e =
+      let made = objects_have 4 (λ content. refl) bytes (messages.PcRep rs) refl all e in
+      (reply_groups made.0, behind_has closers.Rp true made.0 made.1, replies_are (filter_map reply_of (reply_groups made.0)) rs made.2)
     where
       replies_are : (a b : List Reply) → messages.PcRep a ≡ messages.PcRep b → a ≡ b
       replies_are a b h = cc
@@ -415,29 +352,9 @@ module _ (Q : ℕ → Body → Type 0) (bodies_have : (content : Bytes) → AreO
 
   pub reports_have : (bytes : Bytes) (rs : List ErrorReport) → AreOctets bytes → message_or_none (message_of bytes) ≡ Some (messages.PcErr rs) →
       (groups : List (List Object)) × AllByRecursion (AllByRecursion Has) groups × (map report_of groups ≡ rs)
-  reports_have [] rs all e = absurd (no e)
-    where
-      no : ◌≡◌ {A = Option Message} None (Some (messages.PcErr rs)) → ⊥
-      no h = cc
-  reports_have (x ∷ []) rs all e = absurd (no e)
-    where
-      no : ◌≡◌ {A = Option Message} None (Some (messages.PcErr rs)) → ⊥
-      no h = cc
-  reports_have (x ∷ y ∷ []) rs all e = absurd (no e)
-    where
-      no : ◌≡◌ {A = Option Message} None (Some (messages.PcErr rs)) → ⊥
-      no h = cc
-  reports_have (x ∷ y ∷ z ∷ []) rs all e = absurd (no e)
-    where
-      no : ◌≡◌ {A = Option Message} None (Some (messages.PcErr rs)) → ⊥
-      no h = cc
-  reports_have (first ∷ kind ∷ high ∷ low ∷ content) rs all e =
-      let m : Message = messages.PcErr rs in
-      let at : kind ≡ 6 = frame_kind first kind high low content m e in
-      let frame = frame_is first kind high low content m e in
-      let is = all_is 6 (members_of content) m (ap (λ k. message_or_none (content_of k content)) (sym at) ∙ frame.is) in
-      let bytes : AreOctets content = tail_bytes low content (tail_bytes high (low ∷ content) (tail_bytes kind (high ∷ low ∷ content) (tail_bytes first (kind ∷ high ∷ low ∷ content) all))) in
-      (report_groups is.0, reports_of is.0 (members_have content is.0 bytes is.1), reports_are (map report_of (report_groups is.0)) rs is.2)
+  reports_have bytes rs all e =
+      let made = objects_have 6 (λ content. refl) bytes (messages.PcErr rs) refl all e in
+      (report_groups made.0, reports_of made.0 made.1, reports_are (map report_of (report_groups made.0)) rs made.2)
     where
       reports_are : (a b : List ErrorReport) → messages.PcErr a ≡ messages.PcErr b → a ≡ b
       reports_are a b h = cc

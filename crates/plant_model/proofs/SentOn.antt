@@ -260,6 +260,15 @@ is_measured Igp (Some word) = refl
 is_measured Te (Some word) = refl
 is_measured Hops (Some word) = refl
 
+-- what is the same of nothing and of something
+by_option : {X Y : Type 0} (f : Option X → Y) (y : Y) → f None ≡ y → ((x : X) → f (Some x) ≡ y) → (o : Option X) → f o ≡ y
+by_option f y none some None = none
+by_option f y none some (Some x) = some x
+
+by_list : {X Y : Type 0} (f : List X → Y) (y : Y) → f [] ≡ y → ((x : X) (rest : List X) → f (x ∷ rest) ≡ y) → (l : List X) → f l ≡ y
+by_list f y none some [] = none
+by_list f y none some (x ∷ rest) = some x rest
+
 -- what is counted among the optional objects
 module _ (p : Object → Bool) where
   counted_behind : (xs ys : List Object) → count_by p xs ≡ 0 → count_by p (xs ++ ys) ≡ count_by p ys
@@ -369,31 +378,15 @@ module _ (id : ℕ) (w : Wanted) (t : Addr) (s : List As) where
   metrics_are : metrics_of os ≡ (false, type_of_metric m, 0) ∷ bound_said m w.bound_word
   metrics_are =
       ap metrics_of flat
-      ∙ behind (lspa w.masks) after_lspa (no_lspa w.masks)
-      ∙ behind (bandwidth w.bandwidth_word) after_bandwidth (no_bandwidth w.bandwidth_word)
+      ∙ behind (lspa w.masks) after_lspa (by_option (λ (o : Option (ℕ × ℕ × ℕ)). metrics_of (lspa o)) [] refl (λ x. refl) w.masks)
+      ∙ behind (bandwidth w.bandwidth_word) after_bandwidth (by_option (λ (o : Option ℕ). metrics_of (bandwidth o)) [] refl (λ x. refl) w.bandwidth_word)
       ∙ ap (λ l. (false, type_of_metric m, 0) ∷ l) (filter_map-append (λ o. metric_in o.body) (bound m w.bound_word) after_bound
-      ∙ ap (λ l. metrics_of (bound m w.bound_word) ++ l) (behind (iro s) (xro w.query.exclusions) (no_iro s) ∙ no_xro w.query.exclusions)
+      ∙ ap (λ l. metrics_of (bound m w.bound_word) ++ l) (behind (iro s) (xro w.query.exclusions) (by_list (λ (l : List As). metrics_of (iro l)) [] refl (λ x rest. refl) s) ∙ by_list (λ (l : List Exclusion). metrics_of (xro l)) [] refl (λ x rest. refl) w.query.exclusions)
       ∙ append-nil (metrics_of (bound m w.bound_word))
       ∙ alone w.bound_word)
     where
       behind : (xs ys : List Object) → metrics_of xs ≡ [] → metrics_of (xs ++ ys) ≡ metrics_of ys
       behind xs ys e = filter_map-append (λ o. metric_in o.body) xs ys ∙ ap (λ l. l ++ metrics_of ys) e
-
-      no_lspa : (o : Option (ℕ × ℕ × ℕ)) → metrics_of (lspa o) ≡ []
-      no_lspa None = refl
-      no_lspa (Some x) = refl
-
-      no_bandwidth : (o : Option ℕ) → metrics_of (bandwidth o) ≡ []
-      no_bandwidth None = refl
-      no_bandwidth (Some x) = refl
-
-      no_iro : (l : List As) → metrics_of (iro l) ≡ []
-      no_iro [] = refl
-      no_iro (a ∷ l) = refl
-
-      no_xro : (l : List Exclusion) → metrics_of (xro l) ≡ []
-      no_xro [] = refl
-      no_xro (x ∷ l) = refl
 
       alone : (o : Option ℕ) → metrics_of (bound m o) ≡ bound_said m o
       alone None = refl
@@ -405,29 +398,13 @@ module _ (id : ℕ) (w : Wanted) (t : Addr) (s : List As) where
       ap (count_by is_bound) flat
       ∙ counted_behind is_bound (needed 2 (bodies.Rp vspt_flag id) ∷ []) (ends w.source t ∷ (lspa w.masks ++ after_lspa)) refl
       ∙ counted_behind is_bound (ends w.source t ∷ []) (lspa w.masks ++ after_lspa) refl
-      ∙ counted_behind is_bound (lspa w.masks) after_lspa (no_lspa w.masks)
-      ∙ counted_behind is_bound (bandwidth w.bandwidth_word) after_bandwidth (no_bandwidth w.bandwidth_word)
+      ∙ counted_behind is_bound (lspa w.masks) after_lspa (by_option (λ (o : Option (ℕ × ℕ × ℕ)). count_by is_bound (lspa o)) 0 refl (λ x. refl) w.masks)
+      ∙ counted_behind is_bound (bandwidth w.bandwidth_word) after_bandwidth (by_option (λ (o : Option ℕ). count_by is_bound (bandwidth o)) 0 refl (λ x. refl) w.bandwidth_word)
       ∙ counted_behind is_bound (needed 6 (bodies.Metric false true (type_of_metric m) 0) ∷ []) (bound m w.bound_word ++ after_bound) refl
       ∙ sum_by-append (λ o. cond (is_bound o) 1 0) (bound m w.bound_word) after_bound
-      ∙ ap (λ k. count_by is_bound (bound m w.bound_word) + k) (counted_behind is_bound (iro s) (xro w.query.exclusions) (no_iro s) ∙ no_xro w.query.exclusions)
+      ∙ ap (λ k. count_by is_bound (bound m w.bound_word) + k) (counted_behind is_bound (iro s) (xro w.query.exclusions) (by_list (λ (l : List As). count_by is_bound (iro l)) 0 refl (λ x rest. refl) s) ∙ by_list (λ (l : List Exclusion). count_by is_bound (xro l)) 0 refl (λ x rest. refl) w.query.exclusions)
       ∙ alone w.bound_word
     where
-      no_lspa : (o : Option (ℕ × ℕ × ℕ)) → count_by is_bound (lspa o) ≡ 0
-      no_lspa None = refl
-      no_lspa (Some x) = refl
-
-      no_bandwidth : (o : Option ℕ) → count_by is_bound (bandwidth o) ≡ 0
-      no_bandwidth None = refl
-      no_bandwidth (Some x) = refl
-
-      no_iro : (l : List As) → count_by is_bound (iro l) ≡ 0
-      no_iro [] = refl
-      no_iro (a ∷ l) = refl
-
-      no_xro : (l : List Exclusion) → count_by is_bound (xro l) ≡ 0
-      no_xro [] = refl
-      no_xro (x ∷ l) = refl
-
       alone : (o : Option ℕ) → count_by is_bound (bound m o) + 0 ≡ bounds_in o
       alone None = refl
       alone (Some x) = refl
@@ -438,31 +415,11 @@ module _ (id : ℕ) (w : Wanted) (t : Addr) (s : List As) where
       ap (count_by is_minimised) flat
       ∙ counted_behind is_minimised (needed 2 (bodies.Rp vspt_flag id) ∷ []) (ends w.source t ∷ (lspa w.masks ++ after_lspa)) refl
       ∙ counted_behind is_minimised (ends w.source t ∷ []) (lspa w.masks ++ after_lspa) refl
-      ∙ counted_behind is_minimised (lspa w.masks) after_lspa (no_lspa w.masks)
-      ∙ counted_behind is_minimised (bandwidth w.bandwidth_word) after_bandwidth (no_bandwidth w.bandwidth_word)
+      ∙ counted_behind is_minimised (lspa w.masks) after_lspa (by_option (λ (o : Option (ℕ × ℕ × ℕ)). count_by is_minimised (lspa o)) 0 refl (λ x. refl) w.masks)
+      ∙ counted_behind is_minimised (bandwidth w.bandwidth_word) after_bandwidth (by_option (λ (o : Option ℕ). count_by is_minimised (bandwidth o)) 0 refl (λ x. refl) w.bandwidth_word)
       ∙ one_more is_minimised (needed 6 (bodies.Metric false true (type_of_metric m) 0)) (bound m w.bound_word ++ after_bound)
-      ∙ ap (λ k. 1 + k) (counted_behind is_minimised (bound m w.bound_word) after_bound (no_bound w.bound_word)
-      ∙ counted_behind is_minimised (iro s) (xro w.query.exclusions) (no_iro s) ∙ no_xro w.query.exclusions)
-    where
-      no_lspa : (o : Option (ℕ × ℕ × ℕ)) → count_by is_minimised (lspa o) ≡ 0
-      no_lspa None = refl
-      no_lspa (Some x) = refl
-
-      no_bandwidth : (o : Option ℕ) → count_by is_minimised (bandwidth o) ≡ 0
-      no_bandwidth None = refl
-      no_bandwidth (Some x) = refl
-
-      no_bound : (o : Option ℕ) → count_by is_minimised (bound m o) ≡ 0
-      no_bound None = refl
-      no_bound (Some x) = refl
-
-      no_iro : (l : List As) → count_by is_minimised (iro l) ≡ 0
-      no_iro [] = refl
-      no_iro (a ∷ l) = refl
-
-      no_xro : (l : List Exclusion) → count_by is_minimised (xro l) ≡ 0
-      no_xro [] = refl
-      no_xro (x ∷ l) = refl
+      ∙ ap (λ k. 1 + k) (counted_behind is_minimised (bound m w.bound_word) after_bound (by_option (λ (o : Option ℕ). count_by is_minimised (bound m o)) 0 refl (λ x. refl) w.bound_word)
+      ∙ counted_behind is_minimised (iro s) (xro w.query.exclusions) (by_list (λ (l : List As). count_by is_minimised (iro l)) 0 refl (λ x rest. refl) s) ∙ by_list (λ (l : List Exclusion). count_by is_minimised (xro l)) 0 refl (λ x rest. refl) w.query.exclusions)
 
   measures_fit : are_measures os ≡ true
   measures_fit =

@@ -1,6 +1,6 @@
 -- Rows after changes: which change added one, and which were there before.
 use Rattle.std.proofs.Common.{◌≡◌, ◌≢◌, ◌⊎◌, inl, inr, ℕ, zero, suc, ◌+◌, ◌<◌, ◌||◌, Bool, true, false, Option, Some, None, Result, Ok, Err, option_map, List, [], ◌∷◌, ◌++◌, length, take, slice_get, refl, sym, ◌∙◌, ap, subst, arith}
-use Rattle.std.specs.Prelude.{Contains, IsSome}
+use Rattle.std.specs.Prelude.{Contains}
 use Rattle.std.proofs.lemmas.Bool.{cases_Bool, cases_lt}
 use Rattle.std.proofs.lemmas.Option.{slice_get_within}
 use Rattle.dom_base.specs.declared.addr.Addr.{Addr}
@@ -9,11 +9,9 @@ use Rattle.dom_base.specs.declared.link.Link.{Link}
 use Rattle.line_text.specs.Lines.{NumberedLine, told_lines}
 use Rattle.te_links.specs.declared.fault.RowKind.{RowKind}
 use Rattle.te_links.specs.declared.fault.RowKind.TheVariants as kinds
-use Rattle.te_links.specs.declared.fault.TopoFault.{TopoFault}
 use Rattle.te_links.specs.declared.rows.OutLink.{OutLink}
 use Rattle.te_links.specs.declared.rows.Entry.{Entry}
 use Rattle.te_links.specs.Rows.{Rows}
-use Rattle.te_links.specs.Faults.{Breaks}
 use Rattle.te_text.specs.declared.error.TextError.{TextError}
 use Rattle.te_text.specs.declared.row.TextRow.{TextRow}
 use Rattle.te_text.specs.declared.row.TextRow.TheVariants as rows
@@ -218,26 +216,7 @@ pub named_row : (o : Option TextRow) (name : RowName) → option_map name_of o �
 named_row None name is = absurd (let no : None ≡ Some name = is in cc)
 named_row (Some row) name is = (row, refl, (let both : Some (name_of row) ≡ Some name = is in cc))
 
-made_some : {X : Type 0} (make : X → TextRow) (o : Option X) (x : X) → o ≡ Some x → IsSome (option_map make o)
-made_some make None x is = absurd (let no : None ≡ Some x = is in cc)
-made_some make (Some y) x is = refl
-
--- a row that breaks a rule is there
-pub broken_there : (g : Rows) (kind : RowKind) (i : ℕ) (fault : TopoFault) → Breaks g kind i fault → IsSome (row_at g kind i)
-broken_there g kinds.Node i fault breaks = made_some (λ (n : Addr). rows.Node n) (slice_get g.nodes i) breaks.0 breaks.1
-broken_there g kinds.Link i fault breaks = made_some (λ (l : Link). rows.Link l) (slice_get g.links i) breaks.0 breaks.1
-broken_there g kinds.Out i fault breaks = made_some (λ (o : OutLink). rows.Out o) (slice_get g.outs i) breaks.0 breaks.1
-broken_there g kinds.Entry i fault breaks = made_some (λ (e : Entry). rows.Entry e) (slice_get g.entries i) breaks.0 breaks.1
-
 -- ---- places in lists
-
-pub place_there : {X : Type 0} (make : X → TextRow) (xs : List X) (i : ℕ) → IsSome (option_map make (slice_get xs i)) → i < length xs
-place_there make [] i is = absurd (let no : false ≡ true = is in cc)
-place_there make (x ∷ xs) zero is = omega arith
-place_there make (x ∷ xs) (suc i) is = omega (arith, place_there make xs i is)
-
-pub name_there : {X : Type 0} (make : X → TextRow) (xs : List X) (i : ℕ) (x : X) → slice_get xs i ≡ Some x → option_map name_of (option_map make (slice_get xs i)) ≡ Some (name_of (make x))
-name_there make xs i x at = ap (λ (o : Option _). option_map name_of (option_map make o)) at
 
 -- ---- lines and changes
 

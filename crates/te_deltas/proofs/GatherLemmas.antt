@@ -13,83 +13,27 @@ use Rattle.te_deltas.specs.Changes.{nodes_in, links_in, outs_in, entries_in, row
 use Rattle.te_deltas.specs.Gathered.{with_last}
 use Rattle.te_deltas.specs.Slots.{live}
 
-nodes_push : (list more : List TextRow) → nodes_in (list ++ more) ≡ nodes_in list ++ nodes_in more
-nodes_push [] more = refl
-nodes_push (rows.Node n ∷ list) more = ap (λ r. n ∷ r) (nodes_push list more)
-nodes_push (rows.Link l ∷ list) more = nodes_push list more
-nodes_push (rows.Out o ∷ list) more = nodes_push list more
-nodes_push (rows.Entry e ∷ list) more = nodes_push list more
-
-links_push : (list more : List TextRow) → links_in (list ++ more) ≡ links_in list ++ links_in more
-links_push [] more = refl
-links_push (rows.Node n ∷ list) more = links_push list more
-links_push (rows.Link l ∷ list) more = ap (λ r. l ∷ r) (links_push list more)
-links_push (rows.Out o ∷ list) more = links_push list more
-links_push (rows.Entry e ∷ list) more = links_push list more
-
-outs_push : (list more : List TextRow) → outs_in (list ++ more) ≡ outs_in list ++ outs_in more
-outs_push [] more = refl
-outs_push (rows.Node n ∷ list) more = outs_push list more
-outs_push (rows.Link l ∷ list) more = outs_push list more
-outs_push (rows.Out o ∷ list) more = ap (λ r. o ∷ r) (outs_push list more)
-outs_push (rows.Entry e ∷ list) more = outs_push list more
-
-entries_push : (list more : List TextRow) → entries_in (list ++ more) ≡ entries_in list ++ entries_in more
-entries_push [] more = refl
-entries_push (rows.Node n ∷ list) more = entries_push list more
-entries_push (rows.Link l ∷ list) more = entries_push list more
-entries_push (rows.Out o ∷ list) more = entries_push list more
-entries_push (rows.Entry e ∷ list) more = ap (λ r. e ∷ r) (entries_push list more)
+-- the rows of each kind in two lists, one behind the other
+parts_push : (list more : List TextRow) → (nodes_in (list ++ more) ≡ nodes_in list ++ nodes_in more) × (links_in (list ++ more) ≡ links_in list ++ links_in more)
+    × (outs_in (list ++ more) ≡ outs_in list ++ outs_in more) × (entries_in (list ++ more) ≡ entries_in list ++ entries_in more)
+parts_push [] more = (refl, refl, refl, refl)
+parts_push (rows.Node n ∷ list) more = let p = parts_push list more in (ap (λ r. n ∷ r) p.0, p.1, p.2, p.3)
+parts_push (rows.Link l ∷ list) more = let p = parts_push list more in (p.0, ap (λ r. l ∷ r) p.1, p.2, p.3)
+parts_push (rows.Out o ∷ list) more = let p = parts_push list more in (p.0, p.1, ap (λ r. o ∷ r) p.2, p.3)
+parts_push (rows.Entry e ∷ list) more = let p = parts_push list more in (p.0, p.1, p.2, ap (λ r. e ∷ r) p.3)
 
 abbrev made : As → List Addr → List Link → List OutLink → List Entry → Rows
 made own nodes links outs entries = record { own = own; nodes = nodes; links = links; outs = outs; entries = entries }
 
+rows_behind : (own : As) (list more : List TextRow) → rows_of own (list ++ more) ≡ made own (nodes_in list ++ nodes_in more) (links_in list ++ links_in more) (outs_in list ++ outs_in more) (entries_in list ++ entries_in more)
+rows_behind own list more = let p = parts_push list more in rw (p.0, p.1, p.2, p.3) refl
+
 -- a further row stands last in the list of its kind
 pub rows_push : (own : As) (list : List TextRow) (row : TextRow) → rows_of own (list ++ row ∷ []) ≡ with_last (rows_of own list) row
-rows_push own list (rows.Node n) =
-    let row = rows.Node n in
-    rw (
-      nodes_push list (row ∷ []),
-      links_push list (row ∷ []),
-      outs_push list (row ∷ []),
-      entries_push list (row ∷ []),
-      append-nil (links_in list),
-      append-nil (outs_in list),
-      append-nil (entries_in list),
-    ) refl
-rows_push own list (rows.Link l) =
-    let row = rows.Link l in
-    rw (
-      nodes_push list (row ∷ []),
-      links_push list (row ∷ []),
-      outs_push list (row ∷ []),
-      entries_push list (row ∷ []),
-      append-nil (nodes_in list),
-      append-nil (outs_in list),
-      append-nil (entries_in list),
-    ) refl
-rows_push own list (rows.Out o) =
-    let row = rows.Out o in
-    rw (
-      nodes_push list (row ∷ []),
-      links_push list (row ∷ []),
-      outs_push list (row ∷ []),
-      entries_push list (row ∷ []),
-      append-nil (nodes_in list),
-      append-nil (links_in list),
-      append-nil (entries_in list),
-    ) refl
-rows_push own list (rows.Entry e) =
-    let row = rows.Entry e in
-    rw (
-      nodes_push list (row ∷ []),
-      links_push list (row ∷ []),
-      outs_push list (row ∷ []),
-      entries_push list (row ∷ []),
-      append-nil (nodes_in list),
-      append-nil (links_in list),
-      append-nil (outs_in list),
-    ) refl
+rows_push own list (rows.Node n) = rows_behind own list (rows.Node n ∷ []) ∙ rw (append-nil (links_in list), append-nil (outs_in list), append-nil (entries_in list)) refl
+rows_push own list (rows.Link l) = rows_behind own list (rows.Link l ∷ []) ∙ rw (append-nil (nodes_in list), append-nil (outs_in list), append-nil (entries_in list)) refl
+rows_push own list (rows.Out o) = rows_behind own list (rows.Out o ∷ []) ∙ rw (append-nil (nodes_in list), append-nil (links_in list), append-nil (entries_in list)) refl
+rows_push own list (rows.Entry e) = rows_behind own list (rows.Entry e ∷ []) ∙ rw (append-nil (nodes_in list), append-nil (links_in list), append-nil (outs_in list)) refl
 
 pub live_some : (slots : List (Option TextRow)) (row : TextRow) → live (slots ++ Some row ∷ []) ≡ live slots ++ row ∷ []
 live_some [] row = refl

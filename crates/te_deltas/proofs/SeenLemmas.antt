@@ -4,9 +4,6 @@ use Rattle.std.specs.Option.{is_some}
 use Rattle.std.proofs.lemmas.Bool.{cases_Bool}
 use Rattle.std.proofs.lemmas.List.{length-map}
 use Rattle.std.proofs.lemmas.Option.{slice_get-map}
-use Rattle.dom_base.specs.declared.addr.Addr.{Addr}
-use Rattle.dom_base.specs.declared.link.Link.{Link}
-use Rattle.te_links.specs.declared.rows.OutLink.{OutLink}
 use Rattle.te_links.specs.declared.rows.Entry.{Entry}
 use Rattle.te_links.specs.Rows.{Rows}
 use Rattle.te_text.specs.declared.row.TextRow.{TextRow}
@@ -24,11 +21,6 @@ use Rattle.te_deltas.proofs.Names.{compared_same, name_is}
 
 abbrev pub name_at : List TextRow → ℕ → Option RowName
 name_at list i = option_map name_of (slice_get list i)
-
-here : {X : Type 0} (make : X → TextRow) (xs : List X) (rest : List TextRow) (i : ℕ) (x : X) → slice_get xs i ≡ Some x → slice_get (map make xs ++ rest) i ≡ Some (make x)
-here make [] rest i x at = absurd (let none : None ≡ Some x = at in cc)
-here make (one ∷ xs) rest zero x at = let same : Some one ≡ Some x = at in let is : one ≡ x = cc in ap (λ y. Some (make y)) is
-here make (one ∷ xs) rest (suc i) x at = here make xs rest i x at
 
 past : {X : Type 0} (make : X → TextRow) (xs : List X) (rest : List TextRow) (i : ℕ) → slice_get (map make xs ++ rest) (length xs + i) ≡ slice_get rest i
 past make [] rest i = let same : 0 + i ≡ i = omega arith in ap (λ (k : ℕ). slice_get rest k) same
@@ -50,19 +42,6 @@ from_outs g = map (λ o. rows.Out o) g.outs ++ of_entries g
 
 abbrev from_links : Rows → List TextRow
 from_links g = map (λ l. rows.Link l) g.links ++ from_outs g
-
-pub node_named : (g : Rows) (i : ℕ) (n : Addr) → slice_get g.nodes i ≡ Some n → name_at (rows_in_order g) i ≡ Some (names.Node n)
-node_named g i n at = named_by _ (rows.Node n) (here (λ n. rows.Node n) g.nodes (from_links g) i n at)
-
-pub link_named : (g : Rows) (i j : ℕ) (l : Link) → length g.nodes + j ≡ i → slice_get g.links j ≡ Some l → name_at (rows_in_order g) i ≡ Some (names.Link l.far)
-link_named g i j l is at =
-    subst (λ (k : ℕ). name_at (rows_in_order g) k ≡ Some (names.Link l.far)) is
-    (named_by _ (rows.Link l) (past (λ n. rows.Node n) g.nodes (from_links g) j ∙ here (λ l. rows.Link l) g.links (from_outs g) j l at))
-
-pub out_named : (g : Rows) (i j : ℕ) (o : OutLink) → length g.nodes + (length g.links + j) ≡ i → slice_get g.outs j ≡ Some o → name_at (rows_in_order g) i ≡ Some (names.Out o.link.far)
-out_named g i j o is at =
-    subst (λ (k : ℕ). name_at (rows_in_order g) k ≡ Some (names.Out o.link.far)) is
-    (named_by _ (rows.Out o) (past (λ n. rows.Node n) g.nodes (from_links g) (length g.links + j) ∙ past (λ l. rows.Link l) g.links (from_outs g) j ∙ here (λ o. rows.Out o) g.outs (of_entries g) j o at))
 
 pub entry_named : (g : Rows) (i j : ℕ) (e : Entry) → length g.nodes + (length g.links + (length g.outs + j)) ≡ i → slice_get g.entries j ≡ Some e → name_at (rows_in_order g) i ≡ Some (names.Entry e)
 entry_named g i j e is at =

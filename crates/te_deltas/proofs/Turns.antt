@@ -7,7 +7,7 @@ use Rattle.te_text.specs.TopologyText.{rows_in_order}
 use Rattle.te_deltas.specs.declared.changes.Change.{Change}
 use Rattle.te_deltas.specs.declared.changes.Change.TheVariants.{AddNode, DropNode, AddLink, DropLink, AddOut, DropOut, AddEntry, DropEntry}
 use Rattle.te_deltas.specs.Changes.{IsFirstMistake, NoneBefore, changed, is_mistake, rows_after}
-use Rattle.te_deltas.specs.Answers.{IsMistake, IsWhy, mistake}
+use Rattle.te_deltas.specs.Answers.{IsWhy, mistake}
 
 rows_after_push : (list : List TextRow) (changes : List Change) (change : Change) → rows_after list (changes ++ change ∷ []) ≡ changed (rows_after list changes) change
 rows_after_push list [] change = refl
@@ -34,16 +34,6 @@ none_more list changes i change before at good j other below found =
           let same : change ≡ other = cc in
           subst (λ (k : ℕ). is_mistake (rows_after list (take k changes)) other ≡ false) last (subst (λ (c : Change). is_mistake (rows_after list (take i changes)) c ≡ false) same good)
     ]
-
-pub named_first : (list : List TextRow) (changes : List Change) (i : ℕ) (change : Change) → IsFirstMistake list changes i change → IsMistake list changes (mistake change i)
-named_first list changes i (AddNode n) first = (AddNode n, first, refl)
-named_first list changes i (AddLink l) first = (AddLink l, first, refl)
-named_first list changes i (AddOut o) first = (AddOut o, first, refl)
-named_first list changes i (AddEntry e) first = (AddEntry e, first, refl)
-named_first list changes i (DropNode n) first = (DropNode n, first, refl)
-named_first list changes i (DropLink far) first = (DropLink far, first, refl)
-named_first list changes i (DropOut far) first = (DropOut far, first, refl)
-named_first list changes i (DropEntry e) first = (DropEntry e, first, refl)
 
 -- the first mistake, under its name, is why no topology is made
 pub why_first : (g : Rows) (changes : List Change) (i : ℕ) (change : Change) → IsFirstMistake (rows_in_order g) changes i change → IsWhy g changes (mistake change i)

@@ -1,6 +1,6 @@
 -- Lists of rows that are checked one after the other.
-use Rattle.std.proofs.Common.{◌≡◌, inl, inr, ℕ, ◌+◌, ◌<◌, ◌≤◌, ◌^◌, length, take, refl, sym, ◌∙◌, subst, arith}
-use Rattle.std.specs.Prelude.{All}
+use Rattle.std.proofs.Common.{◌≡◌, inl, inr, ℕ, ◌+◌, ◌<◌, ◌≤◌, ◌^◌, List, Some, length, take, refl, sym, ◌∙◌, subst, arith}
+use Rattle.std.specs.Prelude.{All, slice_get}
 use Rattle.std.proofs.lemmas.Bool.{cases_lt}
 use Rattle.std.proofs.lemmas.List.{length-take-le}
 use Rattle.std.proofs.lemmas.Option.{slice_get_cases, slice_get_within}
@@ -43,19 +43,21 @@ pub none_of_entries : (g : Rows) (n : ℕ) → length g.entries ≤ n → NoneBe
 none_of_entries g n all before = none_past g EntryRow n before (λ i other b. omega (arith, slice_get_within g.entries i b.0 b.1))
 
 -- a row that breaks no rule is within the limit of its list
-pub link_within : (g : Rows) (i : ℕ) → i < length g.links → ((other : TopoFault) → ¬ Breaks g InnerLink i other) → i + 1 ≤ 8192
-link_within g i inside clear =
-    elim (slice_get_cases g.links i).1 [
-      | inl has ↦ elim (cases_lt i 8192) [ inl lt ↦ omega arith | inr ge ↦ absurd (clear TooMany (has.0, has.2, inl ge)) ]
+row_within : {X : Type 0} (rows : List X) (most i : ℕ) → i < length rows → ((x : X) → slice_get rows i ≡ Some x → ¬ (most ≤ i)) → i + 1 ≤ most
+row_within rows most i inside clear =
+    elim (slice_get_cases rows i).1 [
+      | inl has ↦ elim (cases_lt i most) [ inl lt ↦ omega arith | inr ge ↦ absurd (clear has.0 has.2 ge) ]
       | inr past ↦ absurd (omega (arith, past.0))
     ]
 
+pub node_within : (g : Rows) (i : ℕ) → i < length g.nodes → ((other : TopoFault) → ¬ Breaks g Node i other) → i + 1 ≤ 1024
+node_within g i inside clear = row_within g.nodes 1024 i inside (λ n at great. clear TooMany (n, at, great))
+
+pub link_within : (g : Rows) (i : ℕ) → i < length g.links → ((other : TopoFault) → ¬ Breaks g InnerLink i other) → i + 1 ≤ 8192
+link_within g i inside clear = row_within g.links 8192 i inside (λ l at great. clear TooMany (l, at, inl great))
+
 pub out_within : (g : Rows) (i : ℕ) → i < length g.outs → ((other : TopoFault) → ¬ Breaks g Out i other) → i + 1 ≤ 256
-out_within g i inside clear =
-    elim (slice_get_cases g.outs i).1 [
-      | inl has ↦ elim (cases_lt i 256) [ inl lt ↦ omega arith | inr ge ↦ absurd (clear TooMany (has.0, has.2, inl ge)) ]
-      | inr past ↦ absurd (omega (arith, past.0))
-    ]
+out_within g i inside clear = row_within g.outs 256 i inside (λ o at great. clear TooMany (o, at, inl great))
 
 -- entries without a breach are no more than numbers of domains allow
 pub entries_short : (g : Rows) (n : ℕ) → n ≤ length g.entries → NoneBefore g EntryRow n → All (λ e. e.from_as.0 < 2 ^ 16) (take n g.entries) → n ≤ 1048576

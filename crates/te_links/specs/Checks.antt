@@ -1,6 +1,8 @@
 -- What the checks of single rows and of single lists answer.
-use Rattle.std.specs.Prelude.{◌≡◌, ◌<◌, ℕ, Option, Some, None}
+use Rattle.std.specs.Prelude.{◌≡◌, ◌<◌, ℕ, Option, Some, None, cond}
+use Rattle.te_links.specs.declared.checks.Broken.{Broken}
 use Rattle.te_links.specs.declared.fault.TopoFault.{TopoFault}
+use Rattle.te_links.specs.declared.fault.TopoFault.TheVariants.{TooMany, DuplicateNode, UnknownNode, OwnAs, BadMetric, DuplicateNear, DuplicateFar, DuplicateEntry}
 use Rattle.te_links.specs.declared.fault.Row.{Row}
 use Rattle.te_links.specs.declared.fault.RowKind.{RowKind}
 use Rattle.te_links.specs.declared.fault.BuildError.{BuildError}
@@ -12,6 +14,18 @@ use Rattle.te_links.specs.Faults.{Breaks, fault_order}
 abbrev pub IsFirstRule : (TopoFault → Type 0) → Option TopoFault → Type 0
 IsFirstRule breaks None = (other : TopoFault) → ¬ breaks other
 IsFirstRule breaks (Some fault) = breaks fault × ((other : TopoFault) → fault_order other < fault_order fault → ¬ breaks other)
+
+-- the first rule that was found broken
+abbrev pub first_broken : Broken → Option TopoFault
+first_broken b =
+    cond b.too_many (Some TooMany)
+    (cond b.duplicate_node (Some DuplicateNode)
+    (cond b.unknown_node (Some UnknownNode)
+    (cond b.own_as (Some OwnAs)
+    (cond b.bad_metric (Some BadMetric)
+    (cond b.duplicate_near (Some DuplicateNear)
+    (cond b.duplicate_far (Some DuplicateFar)
+    (cond b.duplicate_entry (Some DuplicateEntry) None)))))))
 
 -- the rows of this kind before place n break no rule
 pub record NoneBefore (g : Rows) (kind : RowKind) (n : ℕ) : Type 0 where

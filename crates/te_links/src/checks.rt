@@ -5,7 +5,7 @@ ghost use Rattle.dom_base.specs.AddrOrder.{rank};
 ghost use Rattle.te_links.specs.Rows.{IsMetric, IsForeign, IsTopology, FewEntries};
 ghost use Rattle.te_links.specs.Faults.{Breaks, HasBadMetric, IsReason, rows_of_parts};
 ghost use Rattle.te_links.specs.Survey.{IsSurvey};
-ghost use Rattle.te_links.specs.Checks.{IsFirstRule, NoneOf, IsReasonOf};
+ghost use Rattle.te_links.specs.Checks.{IsFirstRule, NoneOf, IsReasonOf, first_broken};
 
 use crate::fault::{BuildError, Row, RowKind, TopoFault};
 use crate::index::place_of;
@@ -25,6 +25,44 @@ fn refusal(fault: TopoFault, kind: RowKind, index: usize) -> BuildError
             index: index as u32,
         },
     )
+}
+
+// Which rules a row breaks: none that are not of its kind.
+#[derive(Clone, Copy)]
+struct Broken {
+    too_many: bool,
+    duplicate_node: bool,
+    unknown_node: bool,
+    own_as: bool,
+    bad_metric: bool,
+    duplicate_near: bool,
+    duplicate_far: bool,
+    duplicate_entry: bool,
+}
+
+// The first of the rules that a row breaks.
+fn first_rule(broken: Broken) -> Option<TopoFault>
+    ensures { result ≡ first_broken broken }
+{
+    if broken.too_many {
+        Some(TopoFault::TooMany)
+    } else if broken.duplicate_node {
+        Some(TopoFault::DuplicateNode)
+    } else if broken.unknown_node {
+        Some(TopoFault::UnknownNode)
+    } else if broken.own_as {
+        Some(TopoFault::OwnAs)
+    } else if broken.bad_metric {
+        Some(TopoFault::BadMetric)
+    } else if broken.duplicate_near {
+        Some(TopoFault::DuplicateNear)
+    } else if broken.duplicate_far {
+        Some(TopoFault::DuplicateFar)
+    } else if broken.duplicate_entry {
+        Some(TopoFault::DuplicateEntry)
+    } else {
+        None
+    }
 }
 
 fn is_metric(value: u32) -> bool
@@ -73,19 +111,16 @@ fn link_fault(parts: &Parts, survey: &Survey, i: usize) -> Option<TopoFault>
     ensures { IsFirstRule (Breaks (rows_of_parts parts.now) RowKind.Link i) result }
 {
     let link = &parts.links.as_slice()[i];
-    if is_link_past(link, i) {
-        Some(TopoFault::TooMany)
-    } else if has_unknown_end(&survey.nodes, link) {
-        Some(TopoFault::UnknownNode)
-    } else if has_bad_metric(link) {
-        Some(TopoFault::BadMetric)
-    } else if survey.same_near[i] > 0 {
-        Some(TopoFault::DuplicateNear)
-    } else if survey.same_far[i] > 0 {
-        Some(TopoFault::DuplicateFar)
-    } else {
-        None
-    }
+    first_rule(Broken {
+        too_many: is_link_past(link, i),
+        duplicate_node: false,
+        unknown_node: has_unknown_end(&survey.nodes, link),
+        own_as: false,
+        bad_metric: has_bad_metric(link),
+        duplicate_near: survey.same_near[i] > 0,
+        duplicate_far: survey.same_far[i] > 0,
+        duplicate_entry: false,
+    })
 }
 
 // Whether an out link is past a limit, or has too many shared risk groups.
@@ -104,21 +139,16 @@ fn out_fault(parts: &Parts, survey: &Survey, i: usize) -> Option<TopoFault>
     let out = &parts.outs.as_slice()[i];
     let link = &out.link;
     let place = parts.links.len() + i;
-    if is_out_past(link, i, survey.tails_end) {
-        Some(TopoFault::TooMany)
-    } else if !is_node(&survey.nodes, link.from) {
-        Some(TopoFault::UnknownNode)
-    } else if !is_foreign(parts.own, out.to_as) {
-        Some(TopoFault::OwnAs)
-    } else if has_bad_metric(link) {
-        Some(TopoFault::BadMetric)
-    } else if survey.same_near[place] > 0 {
-        Some(TopoFault::DuplicateNear)
-    } else if survey.same_far[place] > 0 {
-        Some(TopoFault::DuplicateFar)
-    } else {
-        None
-    }
+    first_rule(Broken {
+        too_many: is_out_past(link, i, survey.tails_end),
+        duplicate_node: false,
+        unknown_node: !is_node(&survey.nodes, link.from),
+        own_as: !is_foreign(parts.own, out.to_as),
+        bad_metric: has_bad_metric(link),
+        duplicate_near: survey.same_near[place] > 0,
+        duplicate_far: survey.same_far[place] > 0,
+        duplicate_entry: false,
+    })
 }
 
 // Whether an entry is past a limit: so many before it are of the same domain.
@@ -136,17 +166,16 @@ fn entry_fault(parts: &Parts, survey: &Survey, i: usize, entry: Entry) -> Option
     ensures rule { IsFirstRule (Breaks (rows_of_parts parts.now) RowKind.Entry i) result }
     ensures number { entry.from_as.0 < 2 ^ 16 }
 {
-    if is_entry_past(survey.same_domain[i], i, survey.entry_nodes_end) {
-        Some(TopoFault::TooMany)
-    } else if !is_node(&survey.nodes, entry.node) {
-        Some(TopoFault::UnknownNode)
-    } else if !is_foreign(parts.own, entry.from_as) {
-        Some(TopoFault::OwnAs)
-    } else if survey.same_entry[i] > 0 {
-        Some(TopoFault::DuplicateEntry)
-    } else {
-        None
-    }
+    first_rule(Broken {
+        too_many: is_entry_past(survey.same_domain[i], i, survey.entry_nodes_end),
+        duplicate_node: false,
+        unknown_node: !is_node(&survey.nodes, entry.node),
+        own_as: !is_foreign(parts.own, entry.from_as),
+        bad_metric: false,
+        duplicate_near: false,
+        duplicate_far: false,
+        duplicate_entry: survey.same_entry[i] > 0,
+    })
 }
 
 fn check_nodes(parts: &Parts, survey: &Survey) -> Result<(), BuildError>
@@ -154,11 +183,18 @@ fn check_nodes(parts: &Parts, survey: &Survey) -> Result<(), BuildError>
     ensures { MatchResult result (λ _. NoneOf (rows_of_parts parts.now) RowKind.Node) (IsReasonOf (rows_of_parts parts.now) RowKind.Node) }
 {
     for i in 0..parts.nodes.len() {
-        if i >= NODES_MAX {
-            return Err(refusal(TopoFault::TooMany, RowKind::Node, i));
-        }
-        if survey.same_node[i] > 0 {
-            return Err(refusal(TopoFault::DuplicateNode, RowKind::Node, i));
+        let broken = Broken {
+            too_many: i >= NODES_MAX,
+            duplicate_node: survey.same_node[i] > 0,
+            unknown_node: false,
+            own_as: false,
+            bad_metric: false,
+            duplicate_near: false,
+            duplicate_far: false,
+            duplicate_entry: false,
+        };
+        if let Some(fault) = first_rule(broken) {
+            return Err(refusal(fault, RowKind::Node, i));
         }
     }
     Ok(())

@@ -1,10 +1,10 @@
-use Rattle.std.proofs.Common.{◌++◌, ◌-◌, length, take, drop, ap, ◌∙◌, subst, ℕ}
+use Rattle.std.proofs.Common.{subst, ℕ}
 use Rattle.std.specs.Prelude.{List}
 use Rattle.dom_base.specs.declared.addr.Addr.{Addr}
 use Rattle.diverse_pairs.specs.Potentials.{potential_in}
-use Rattle.diverse_pairs.specs.Conditions.{asked_of, fars_of, LinkHoldsAt}
+use Rattle.diverse_pairs.specs.Conditions.{asked_of, LinkHoldsAt}
 use Rattle.diverse_pairs.specs.Steps.{IsFirstNot}
-use Rattle.diverse_pairs.proofs.Counting.{behind_first, first_shown, second_shown}
+use Rattle.diverse_pairs.proofs.Counting.{both_behind, first_shown, second_shown}
 use Rattle.diverse_pairs.proofs.Judging.{link_first, paths_hold}
 use Rattle.diverse_pairs.proofs.checker.check_paths.Goals as goal
 
@@ -29,11 +29,8 @@ returns-in-Some-false_link c =
     let p = c.args.potentials.now in
     let first = c.args.first.now in
     let second = c.args.second.now in
-    let holds = c.in_default.ensures in
-    let one = behind_first first (first_shown g q s t first second holds) in
-    let other = behind_first second (second_shown g q s t first second holds) in
-    let used = ap (λ (xs : List Addr). xs ++ take (length second - 1) (drop 1 second)) one ∙ ap (λ (xs : List Addr). fars_of first ++ xs) other in
-    link_first (asked_of g q s t) p first second c.in-Some-false_link.index holds
+    let used = both_behind g q s t first second c.in_default.ensures in
+    link_first (asked_of g q s t) p first second c.in-Some-false_link.index c.in_default.ensures
     (subst (λ (xs : List Addr). IsFirstNot (LinkHoldsAt g q (potential_in p) xs) c.in-Some-false_link.index) used c.in-Some-false_link.ensures)
 
 pub returns-in-None : goal.returns-in-None
@@ -45,8 +42,5 @@ returns-in-None c =
     let p = c.args.potentials.now in
     let first = c.args.first.now in
     let second = c.args.second.now in
-    let holds = c.in_default.ensures in
-    let one = behind_first first (first_shown g q s t first second holds) in
-    let other = behind_first second (second_shown g q s t first second holds) in
-    let used = ap (λ (xs : List Addr). xs ++ take (length second - 1) (drop 1 second)) one ∙ ap (λ (xs : List Addr). fars_of first ++ xs) other in
-    paths_hold (asked_of g q s t) p first second holds (subst (λ (xs : List Addr). (i : ℕ) → LinkHoldsAt g q (potential_in p) xs i) used c.in-None.ensures)
+    let used = both_behind g q s t first second c.in_default.ensures in
+    paths_hold (asked_of g q s t) p first second c.in_default.ensures (subst (λ (xs : List Addr). (i : ℕ) → LinkHoldsAt g q (potential_in p) xs i) used c.in-None.ensures)

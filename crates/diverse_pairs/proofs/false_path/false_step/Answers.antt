@@ -9,12 +9,6 @@ use Rattle.dom_base.specs.declared.addr.Addr.{Addr}
 use Rattle.diverse_pairs.proofs.Tracing.{few_before, first_stop, first_end, stops_used, stops_at, goes_on, ended}
 use Rattle.diverse_pairs.proofs.false_path.false_step.Goals as goal
 
-pub overflow_add-result : goal.overflow_add-result
-overflow_add-result c =
-    let few = few_before c.args.topology.now c.args.query.now c.args.used.now c.args.source c.args.fars.now c.loop-far.far-index c.loop-far.here c.requires.rules (omega arith) c.loop-far.invariant.traces in
-    let place = c.loop-far.invariant.same_place in
-    omega (arith, few, place)
-
 pub returns-then-is_in_use-clause-first : goal.returns-then-is_in_use-clause-first
 returns-then-is_in_use-clause-first c =
     let g = c.args.topology.now in
@@ -30,18 +24,6 @@ returns-then-is_in_use-clause-first c =
     (first_stop g q used c.args.source c.args.target fars k c.loop-far.here c.loop-far-test.true inv.traces
     (stops_used g q used c.args.source c.args.target fars k far c.loop-far-test.true (get_or_default fars k zero far c.loop-far-test.true) has))
 
-pub returns-then-is_in_use-clause-few : goal.returns-then-is_in_use-clause-few
-returns-then-is_in_use-clause-few c =
-    let few = few_before c.args.topology.now c.args.query.now c.args.used.now c.args.source c.args.fars.now c.loop-far.far-index c.loop-far.here c.requires.rules (omega arith) c.loop-far.invariant.traces in
-    let place = c.loop-far.invariant.same_place in
-    omega (arith, few, place)
-
-pub overflow_add-result-in_default : goal.overflow_add-result-in_default
-overflow_add-result-in_default c =
-    let few = few_before c.args.topology.now c.args.query.now c.args.used.now c.args.source c.args.fars.now c.loop-far.far-index c.loop-far.here c.requires.rules (omega arith) c.loop-far.invariant.traces in
-    let place = c.loop-far.invariant.same_place in
-    omega (arith, few, place)
-
 pub returns-in_default-clause-first : goal.returns-in_default-clause-first
 returns-in_default-clause-first c =
     let g = c.args.topology.now in
@@ -56,18 +38,6 @@ returns-in_default-clause-first c =
     (first_stop g q used c.args.source c.args.target fars k c.loop-far.here c.loop-far-test.true inv.traces
     (stops_at g q used c.args.source c.args.target fars k c.loop-far.here far c.requires.order c.loop-far-test.true (get_or_default fars k zero far c.loop-far-test.true) inv.traces c.in_default.ensures))
 
-pub returns-in_default-clause-few : goal.returns-in_default-clause-few
-returns-in_default-clause-few c =
-    let few = few_before c.args.topology.now c.args.query.now c.args.used.now c.args.source c.args.fars.now c.loop-far.far-index c.loop-far.here c.requires.rules (omega arith) c.loop-far.invariant.traces in
-    let place = c.loop-far.invariant.same_place in
-    omega (arith, few, place)
-
-pub overflow_add-place : goal.overflow_add-place
-overflow_add-place c =
-    let few = few_before c.args.topology.now c.args.query.now c.args.used.now c.args.source c.args.fars.now c.loop-far.far-index c.loop-far.here c.requires.rules (omega arith) c.loop-far.invariant.traces in
-    let place = c.loop-far.invariant.same_place in
-    omega (arith, few, place)
-
 pub loop-far-preserved : goal.loop-far-preserved
 loop-far-preserved c =
     let g = c.args.topology.now in
@@ -78,12 +48,15 @@ loop-far-preserved c =
     let zero : Addr = V4 0 in
     let far = get_or fars k zero in
     let inv = c.loop-far.invariant in
+    let traces =
+    goes_on g q used c.args.source fars k c.loop-far.here c.in-Some.next far c.loop-far-test.true (get_or_default fars k zero far c.loop-far-test.true) inv.traces c.in-Some.ensures
+    (λ has.
+    let bad : false ≡ true = c.if-is_in_use.ensures.1 (subst (λ i. Contains (used ++ take i fars) far) (sym inv.same_place) has) in
+    cc) in
     record {
       same_place = ap (λ i. i + 1) inv.same_place;
-      traces = goes_on g q used c.args.source fars k c.loop-far.here c.in-Some.next far c.loop-far-test.true (get_or_default fars k zero far c.loop-far-test.true) inv.traces c.in-Some.ensures
-          (λ has.
-          let bad : false ≡ true = c.if-is_in_use.ensures.1 (subst (λ i. Contains (used ++ take i fars) far) (sym inv.same_place) has) in
-          cc);
+      few = omega (arith, few_before g q used c.args.source fars (k + 1) c.in-Some.next c.requires.rules (omega (arith, c.loop-far-test.true)) traces, inv.same_place);
+      traces = traces;
     }
 
 pub returns-then-eq-clause-first : goal.returns-then-eq-clause-first
@@ -91,20 +64,9 @@ returns-then-eq-clause-first c =
     ended c.args.topology.now c.args.query.now c.args.used.now c.args.source c.args.target c.args.fars.now c.loop-far.far-index c.loop-far.here c.loop-far-test.false c.loop-far.invariant.traces
     (same_addr c.loop-far.here c.args.target (eqb-true (rank c.loop-far.here) (rank c.args.target) (sym c.if-eq.ensures)))
 
-pub returns-then-eq-clause-few : goal.returns-then-eq-clause-few
-returns-then-eq-clause-few c =
-    let few = few_before c.args.topology.now c.args.query.now c.args.used.now c.args.source c.args.fars.now c.loop-far.far-index c.loop-far.here c.requires.rules (omega arith) c.loop-far.invariant.traces in
-    omega (arith, few)
-
 pub returns-else-eq-clause-first : goal.returns-else-eq-clause-first
 returns-else-eq-clause-first c =
     let inv = c.loop-far.invariant in
     rw inv.same_place
     (first_end c.args.topology.now c.args.query.now c.args.used.now c.args.source c.args.target c.args.fars.now c.loop-far.far-index c.loop-far.here c.requires.order (omega arith)
     c.loop-far-test.false inv.traces (λ is. eqb-false (rank c.loop-far.here) (rank c.args.target) (sym c.if-eq.ensures) (ap rank is)))
-
-pub returns-else-eq-clause-few : goal.returns-else-eq-clause-few
-returns-else-eq-clause-few c =
-    let few = few_before c.args.topology.now c.args.query.now c.args.used.now c.args.source c.args.fars.now c.loop-far.far-index c.loop-far.here c.requires.rules (omega arith) c.loop-far.invariant.traces in
-    let place = c.loop-far.invariant.same_place in
-    omega (arith, few, place)

@@ -1,9 +1,8 @@
 use Rattle.std.proofs.Common.{arith}
-use Rattle.diverse_pairs.specs.Paths.{IsFirstAmong, HasNoneAmong}
 use Rattle.diverse_pairs.specs.Uses.{marks_of}
 use Rattle.diverse_pairs.specs.Listed.{listed}
 use Rattle.diverse_pairs.proofs.Along.{arc_inside, into_within, from_within}
-use Rattle.diverse_pairs.proofs.FirstAmong.{first_on, first_back, only_on, only_back, one_of_both}
+use Rattle.diverse_pairs.proofs.FirstAmong.{lower_on, lower_back, only_on, only_back, one_of_both}
 use Rattle.diverse_pairs.proofs.lowest.first_from.Goals as goal
 
 pub overflow_cast-from : goal.overflow_cast-from
@@ -34,66 +33,30 @@ first_among-back-requires-clause-places c = into_within c.args.topology.now (lis
 
 pub unreachable-requires : goal.unreachable-requires
 unreachable-requires c =
-    let g = c.args.topology.now in
-    let arcs = listed c.args.arcs.now in
-    let us = marks_of c.args.uses.now (listed c.args.arcs.now) in
-    let u = c.args.from in
-    let into = c.links_into.result.now in
-    let out = c.links_from.result.now in
-    let on : HasNoneAmong arcs us u out = rw c.in-None-None.is-0 at c.first_among-onward.ensures in
-    let back : HasNoneAmong arcs us u into = rw c.in-None-None.is-1 at c.first_among-back.ensures in
-    one_of_both g arcs us u into out c.requires.along c.links_into.ensures c.links_from.ensures.places c.requires.some on back
+    one_of_both c.args.topology.now (listed c.args.arcs.now) (marks_of c.args.uses.now (listed c.args.arcs.now)) c.args.from c.links_into.result.now c.links_from.result.now c.requires.along
+    c.links_into.ensures c.links_from.ensures.places c.first_among-onward.result c.first_among-back.result c.first_among-onward.ensures c.first_among-back.ensures
+    c.requires.some c.in-None-None.is-0 c.in-None-None.is-1
 
 pub returns-then-other-one : goal.returns-then-other-one
 returns-then-other-one c =
-    let g = c.args.topology.now in
-    let arcs = listed c.args.arcs.now in
-    let us = marks_of c.args.uses.now (listed c.args.arcs.now) in
-    let u = c.args.from in
-    let into = c.links_into.result.now in
-    let out = c.links_from.result.now in
-    let one = c.in-Some-Some.one in
-    let other = c.in-Some-Some.other in
-    let on : IsFirstAmong arcs us u out one.arc one.head = rw c.in-Some-Some.is-0 at c.first_among-onward.ensures in
-    let back : IsFirstAmong arcs us u into other.arc other.head = rw c.in-Some-Some.is-1 at c.first_among-back.ensures in
-    first_back g arcs us u into out c.requires.along c.links_into.ensures c.links_from.ensures.places one.arc one.head other.arc other.head on back (omega (arith, c.if-other-one.true))
+    lower_back c.args.topology.now (listed c.args.arcs.now) (marks_of c.args.uses.now (listed c.args.arcs.now)) c.args.from c.links_into.result.now c.links_from.result.now c.requires.along
+    c.links_into.ensures c.links_from.ensures.places c.first_among-onward.result c.first_among-back.result c.first_among-onward.ensures c.first_among-back.ensures
+    c.in-Some-Some.one c.in-Some-Some.other c.in-Some-Some.is-0 c.in-Some-Some.is-1 c.if-other-one.true
 
 pub returns-else-other-one : goal.returns-else-other-one
 returns-else-other-one c =
-    let g = c.args.topology.now in
-    let arcs = listed c.args.arcs.now in
-    let us = marks_of c.args.uses.now (listed c.args.arcs.now) in
-    let u = c.args.from in
-    let into = c.links_into.result.now in
-    let out = c.links_from.result.now in
-    let one = c.in-Some-Some.one in
-    let other = c.in-Some-Some.other in
-    let on : IsFirstAmong arcs us u out one.arc one.head = rw c.in-Some-Some.is-0 at c.first_among-onward.ensures in
-    let back : IsFirstAmong arcs us u into other.arc other.head = rw c.in-Some-Some.is-1 at c.first_among-back.ensures in
-    first_on g arcs us u into out c.requires.along c.links_into.ensures c.links_from.ensures.places one.arc one.head other.arc other.head on back c.if-other-one.false
+    lower_on c.args.topology.now (listed c.args.arcs.now) (marks_of c.args.uses.now (listed c.args.arcs.now)) c.args.from c.links_into.result.now c.links_from.result.now c.requires.along
+    c.links_into.ensures c.links_from.ensures.places c.first_among-onward.result c.first_among-back.result c.first_among-onward.ensures c.first_among-back.ensures
+    c.in-Some-Some.one c.in-Some-Some.other c.in-Some-Some.is-0 c.in-Some-Some.is-1 c.if-other-one.false
 
 pub returns-in-Some-None : goal.returns-in-Some-None
 returns-in-Some-None c =
-    let g = c.args.topology.now in
-    let arcs = listed c.args.arcs.now in
-    let us = marks_of c.args.uses.now (listed c.args.arcs.now) in
-    let u = c.args.from in
-    let into = c.links_into.result.now in
-    let out = c.links_from.result.now in
-    let one = c.in-Some-None.one in
-    let on : IsFirstAmong arcs us u out one.arc one.head = rw c.in-Some-None.is-0 at c.first_among-onward.ensures in
-    let back : HasNoneAmong arcs us u into = rw c.in-Some-None.is-1 at c.first_among-back.ensures in
-    only_on g arcs us u into out c.requires.along c.links_into.ensures c.links_from.ensures.places one.arc one.head on back
+    only_on c.args.topology.now (listed c.args.arcs.now) (marks_of c.args.uses.now (listed c.args.arcs.now)) c.args.from c.links_into.result.now c.links_from.result.now c.requires.along
+    c.links_into.ensures c.links_from.ensures.places c.first_among-onward.result c.first_among-back.result c.first_among-onward.ensures c.first_among-back.ensures
+    c.in-Some-None.one c.in-Some-None.is-0 c.in-Some-None.is-1
 
 pub returns-in-None-Some : goal.returns-in-None-Some
 returns-in-None-Some c =
-    let g = c.args.topology.now in
-    let arcs = listed c.args.arcs.now in
-    let us = marks_of c.args.uses.now (listed c.args.arcs.now) in
-    let u = c.args.from in
-    let into = c.links_into.result.now in
-    let out = c.links_from.result.now in
-    let other = c.in-None-Some.other in
-    let on : HasNoneAmong arcs us u out = rw c.in-None-Some.is-0 at c.first_among-onward.ensures in
-    let back : IsFirstAmong arcs us u into other.arc other.head = rw c.in-None-Some.is-1 at c.first_among-back.ensures in
-    only_back g arcs us u into out c.requires.along c.links_into.ensures c.links_from.ensures.places other.arc other.head on back
+    only_back c.args.topology.now (listed c.args.arcs.now) (marks_of c.args.uses.now (listed c.args.arcs.now)) c.args.from c.links_into.result.now c.links_from.result.now c.requires.along
+    c.links_into.ensures c.links_from.ensures.places c.first_among-onward.result c.first_among-back.result c.first_among-onward.ensures c.first_among-back.ensures
+    c.in-None-Some.other c.in-None-Some.is-0 c.in-None-Some.is-1
