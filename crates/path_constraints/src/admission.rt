@@ -31,6 +31,7 @@ fn fits(query: &Query, link: &Link) -> bool
 /// Whether a query allows a link: it has the bandwidth that is asked for and the colours (RFC 3209,
 /// section 4.7.4), and no exclusion bars it (RFC 5521, section 2.1). What a path may take is a link
 /// that is allowed, between nodes that no exclusion bars.
+#[inline(always)]
 pub fn allows(query: &Query, link: &Link) -> bool
     ensures { IsTrue result ↔ Allows query.now link.now }
 {

@@ -31,6 +31,8 @@ fn lies_in(addr: Addr, prefix: Addr, length: u8) -> bool
     }
 }
 
+// Stays a call, so that what is asked of each link is small where nothing is excluded.
+#[inline(never)]
 fn names_link(what: &Excluded, link: &Link) -> bool
     ensures { IsTrue result ↔ NamesLink what.now link.now }
 {
@@ -63,6 +65,7 @@ fn names_node(what: &Excluded, own: As, node: Addr) -> bool
 /// Whether an exclusion of the query bars a link: an interface of it lies in a prefix with
 /// attribute 0, or the link carries a shared risk (RFC 5521, section 2.1). Exclusions that are
 /// only to be avoided bar nothing.
+#[inline(always)]
 pub fn bars_link(query: &Query, link: &Link) -> bool
     ensures { IsTrue result ↔ BarsLink query.now link.now }
 {

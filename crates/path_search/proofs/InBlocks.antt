@@ -221,6 +221,28 @@ all_nothing n =
 pub record IsPutUpTo (labels : List (Option Label)) (waiting : List (Option ℕ)) (i : ℕ) : Type 0 where
   pub long : length waiting ≡ length labels
   pub before : (j : ℕ) → j < i → cost_at waiting j ≡ cost_of (label_at labels j)
+  pub behind : (j : ℕ) → i ≤ j → cost_at waiting j ≡ None
+
+pub none_put : (labels : List (Option Label)) → IsPutUpTo labels (replicate (length labels) None) 0
+none_put labels = record {
+  long = length-replicate {A = Option ℕ} (length labels) None;
+  before = λ j up. absurd (omega (arith, up));
+  behind = λ j _. elim (cases_lt j (length labels)) [
+    | inl below ↦ get_or-replicate (length labels) j None None below
+    | inr past ↦ get_or_past (replicate (length labels) None) j None (omega (arith, past, length-replicate {A = Option ℕ} (length labels) None))
+  ];
+}
+
+pub none_more : (labels : List (Option Label)) (waiting : List (Option ℕ)) (i : ℕ) → cost_of (label_at labels i) ≡ None → IsPutUpTo labels waiting i →
+    IsPutUpTo labels waiting (i + 1)
+none_more labels waiting i none put = record {
+  long = put.long;
+  before = λ j up. elim (eqb_tells j i) [
+    | inl same ↦ put.behind j (omega (arith, same.1)) ∙ sym (ap (λ k. cost_of (label_at labels k)) same.1 ∙ none)
+    | inr other ↦ put.before j (omega (arith, up, other.1))
+  ];
+  behind = λ j from. put.behind j (omega (arith, from));
+}
 
 pub put_more : (labels : List (Option Label)) (waiting next : List (Option ℕ)) (i : ℕ) (cost : Option ℕ) → i < length labels → cost ≡ cost_of (label_at labels i) →
     IsPutUpTo labels waiting i → next ≡ slice_set waiting i cost → IsPutUpTo labels next (i + 1)
@@ -234,6 +256,10 @@ put_more labels waiting next i cost below at put is = record {
         let there : cost_at next j ≡ cost_at waiting j = rw is (get_or-set_other waiting i j cost None other.1) in
         there ∙ put.before j (omega (arith, up, other.1))
   ];
+  behind = λ j from.
+      let other : j ≢ i = λ same. omega (arith, same, from) in
+      let there : cost_at next j ≡ cost_at waiting j = rw is (get_or-set_other waiting i j cost None other) in
+      there ∙ put.behind j (omega (arith, from));
 }
 
 pub put_all : (labels : List (Option Label)) (waiting : List (Option ℕ)) (i : ℕ) → length labels ≤ i → IsPutUpTo labels waiting i → waiting ≡ map cost_of labels

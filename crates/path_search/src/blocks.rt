@@ -59,8 +59,7 @@ fn number_of(cost: &Option<Cost>) -> u32
     }
 }
 
-/// Puts a cost at a place. Where the same stands there already, as at most nodes of a new search, no block is looked
-/// through.
+/// Puts a cost at a place. Where the same stands there already, no block is looked through.
 pub(crate) fn set_cost(costs: &mut [u32], least: &mut [u32], place: usize, cost: &Option<Cost>)
     requires blocks { AreBlocks costs.old least.old }
     requires short { length costs.old < 2 ^ 31 }

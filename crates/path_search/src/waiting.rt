@@ -77,7 +77,9 @@ impl Waiting {
     {
         let mut waiting = Waiting::none(alloc, labels.len())?;
         for i in 0..labels.len() as u32 {
-            waiting.put(i, cost_from(labels, i));
+            if let Some(cost) = cost_from(labels, i) {
+                waiting.put(i, Some(cost));
+            }
         }
         Ok(waiting)
     }

@@ -13,13 +13,16 @@ use pcep_messages::{Answer, Asked, ErrorReport, Message, Notice, Reply, Wanted, 
 use pcep_objects::{Body, Object};
 use std::alloc::Global;
 
+// A request that is sent on has at most so many objects.
+const OBJECTS_MOST: usize = 8;
+
 /// A list of one.
 pub fn one<T: Drop>(alloc: Global, row: T) -> Result<List<T>, NoMemory>
     ensures { IfOk result (λ list. list ≡ row ∷ []) }
 {
-    let mut list = List::new(alloc);
+    let mut list = Vec::with_capacity(alloc, 1)?;
     list.push(row)?;
-    Ok(list)
+    Ok(List::from_vec(list))
 }
 
 fn exclusions_of(query: Query) -> List<Exclusion>
@@ -89,7 +92,7 @@ fn asked_of(
 ) -> Result<Asked, NoMemory>
     ensures { IfOk result (λ asked. asked ≡ asked_of id wanted.now target sequence.now) }
 {
-    let mut objects = List::new(alloc);
+    let mut objects = List::from_vec(Vec::with_capacity(alloc, OBJECTS_MOST)?);
     put_first(&mut objects, id, wanted, target)?;
     put_last(alloc, &mut objects, &wanted.query, sequence)?;
     Ok(Asked { objects })

@@ -1,5 +1,5 @@
 -- Which objects of a message belong together (RFC 5440, 6.4 to 6.7).
-use Rattle.std.specs.Prelude.{ℕ, Bool, true, false, List, [], ◌∷◌, Option, Some, None, is_some, ◌&&◌, ◌||◌, if◌then◌else◌}
+use Rattle.std.specs.Prelude.{◌≡◌, ℕ, Bool, true, false, List, [], ◌∷◌, Option, Some, None, is_some, ◌&&◌, ◌||◌, if◌then◌else◌}
 use Rattle.std.specs.List.{filter_map}
 use Rattle.std.specs.Option.{option_or}
 use Rattle.pcep_objects.specs.declared.object.Body.{Body}
@@ -67,6 +67,14 @@ closes_by closers.Report o = is_report o
 
 abbrev pub all_groups : List Object × List (List Object) → List (List Object)
 all_groups groups = groups.0 ∷ groups.1
+
+-- objects are one group, which begins with its RP
+pub record AreOneGroup (closes : Object → Bool) (os : List Object) : Type 0 where
+  pub first : Object
+  pub rest : List Object
+  pub are : os ≡ first ∷ rest
+  pub begins : is_rp first ≡ true
+  pub goes_on : cut closes (closes first) rest ≡ (rest, [])
 
 -- ---- requests (6.4): from the first object on, and from each RP behind another
 

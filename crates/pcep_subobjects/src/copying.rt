@@ -47,7 +47,7 @@ pub fn append_hops(alloc: Global, hops: &mut List<Hop>, more: &[Hop]) -> Result<
 pub fn copy_hops(alloc: Global, hops: &[Hop]) -> Result<List<Hop>, NoMemory>
     ensures { IfOk result (λ copies. copies ≡ hops.now) }
 {
-    let mut copies = List::new(alloc);
+    let mut copies = List::from_vec(Vec::with_capacity(alloc, hops.len())?);
     append_hops(alloc, &mut copies, hops)?;
     Ok(copies)
 }

@@ -5,8 +5,8 @@ ghost use Rattle.pcep_subobjects.specs.Subobjects.{Gives, IsLeftBehind};
 ghost use Rattle.pcep_subobjects.specs.Exclusions.{exclusion_has_length, exclusion_of, exclusion_at, exclusions_of, exclusion_text, exclusions_text, WrittenIsRead, NoneBeginsAnother};
 
 use crate::hop::HopFault;
-use crate::octets::{addr_len, first, put_addr, wide};
-use crate::part::{Spelled, build_parts, check_parts, room_behind_parts, write_parts};
+use crate::octets::{COMMON_OCTETS, addr_len, first, put_addr, wide};
+use crate::part::{Spelled, build_parts_within, check_parts, room_behind_parts, write_parts};
 use crate::subobject::Subobject;
 use dom_base::{Addr, As, Excluded, Exclusion, List, NoMemory, half, word};
 use pcep_codes::subobjects;
@@ -63,7 +63,8 @@ pub fn read_exclusions(alloc: Global, bytes: &[u8]) -> Result<List<Exclusion>, H
     ensures { Gives result (exclusions_of bytes.now) }
 {
     check_exclusions(bytes)?;
-    Ok(build_parts::<HopFault, Exclusion>(alloc, 0, bytes)?)
+    let count = bytes.len() / COMMON_OCTETS;
+    Ok(build_parts_within::<HopFault, Exclusion>(alloc, count, 0, bytes)?)
 }
 
 impl Spelled for Exclusion {

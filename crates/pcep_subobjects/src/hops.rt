@@ -5,8 +5,8 @@ ghost use Rattle.pcep_subobjects.specs.Subobjects.{Gives, IsLeftBehind};
 ghost use Rattle.pcep_subobjects.specs.Hops.{hop_has_length, hop_of, hop_at, hops_of, hop_text, hops_text, strict_hop, WrittenIsRead, NoneBeginsAnother};
 
 use crate::hop::{Hop, HopFault};
-use crate::octets::{addr_len, first, put_addr, wide};
-use crate::part::{Spelled, build_parts, check_parts, room_behind_parts, write_parts};
+use crate::octets::{COMMON_OCTETS, addr_len, first, put_addr, wide};
+use crate::part::{Spelled, build_parts_within, check_parts, room_behind_parts, write_parts};
 use crate::subobject::Subobject;
 use dom_base::{Addr, As, List, NoMemory, half, word};
 use pcep_codes::subobjects;
@@ -89,17 +89,17 @@ pub fn read_hops(alloc: Global, bytes: &[u8]) -> Result<List<Hop>, HopFault>
     ensures { Gives result (hops_of bytes.now) }
 {
     check_hops(bytes)?;
-    Ok(build_parts::<HopFault, Hop>(alloc, 0, bytes)?)
+    let count = bytes.len() / COMMON_OCTETS;
+    Ok(build_parts_within::<HopFault, Hop>(alloc, count, 0, bytes)?)
 }
 
 fn put_prefix(text: &mut Vec<u8>, addr: Addr) -> Result<(), NoMemory>
     ensures { OnOk result (text.new.items ≡ text.old.items ++ hop_text (strict_hop addr)) }
 {
     match addr {
-        Addr::V4(_) => {
-            text.extend_from_slice(&[subobjects::IPV4, 8])?;
-            put_addr(text, addr)?;
-            text.extend_from_slice(&[32, 0])?;
+        Addr::V4(number) => {
+            let [a, b, c, d] = number.to_be_bytes();
+            text.extend_from_slice(&[subobjects::IPV4, 8, a, b, c, d, 32, 0])?;
         }
         Addr::V6(_) => {
             text.extend_from_slice(&[subobjects::IPV6, 20])?;

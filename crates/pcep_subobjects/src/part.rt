@@ -5,8 +5,12 @@ ghost use Rattle.dom_base.specs.Parts.{Reader, parts_from};
 ghost use Rattle.pcep_subobjects.specs.Parts.{Checks, Measures};
 ghost use Rattle.pcep_subobjects.specs.Subobjects.{IsLeftBehind};
 
+use crate::octets::COMMON_OCTETS;
 use dom_base::{List, NoMemory};
 use std::alloc::Global;
+
+// Room for at most so many parts is taken from the start, where nothing is known of their lengths.
+const FEW_PARTS: usize = 8;
 
 /// A part that is read from octets. `F` is what can be at fault, told by its place.
 pub trait Part<F>: Sized + Drop {
@@ -61,9 +65,10 @@ pub fn check_parts<F, P: Part<F>>(start: usize, bytes: &[u8]) -> Result<(), F>
     Ok(())
 }
 
-/// The parts of octets that have no fault.
-pub fn build_parts<F, P: Part<F>>(
+/// The parts of octets that have no fault. Room for so many is taken from the start.
+pub(crate) fn build_parts_within<F, P: Part<F>>(
     alloc: Global,
+    count: usize,
     start: usize,
     bytes: &[u8],
 ) -> Result<List<P>, NoMemory>
@@ -71,7 +76,7 @@ pub fn build_parts<F, P: Part<F>>(
     requires good { IsOk (parts_from P.at start 0 bytes.now) }
     ensures { IfOk result (λ xs. parts_from P.at start 0 bytes.now ≡ Ok xs) }
 {
-    let mut built = List::new(alloc);
+    let mut built = List::from_vec(Vec::with_capacity(alloc, count)?);
     let mut rest = bytes;
     let mut place = start;
     while !rest.is_empty() {
@@ -82,6 +87,20 @@ pub fn build_parts<F, P: Part<F>>(
         place += len;
     }
     Ok(built)
+}
+
+/// The parts of octets that have no fault.
+pub fn build_parts<F, P: Part<F>>(
+    alloc: Global,
+    start: usize,
+    bytes: &[u8],
+) -> Result<List<P>, NoMemory>
+    requires room { start + length bytes.now < 2 ^ 64 }
+    requires good { IsOk (parts_from P.at start 0 bytes.now) }
+    ensures { IfOk result (λ xs. parts_from P.at start 0 bytes.now ≡ Ok xs) }
+{
+    let count = (bytes.len() / COMMON_OCTETS).min(FEW_PARTS);
+    build_parts_within(alloc, count, start, bytes)
 }
 
 /// Appends the octets of parts, one behind the other. After a refusal some of them may stand there.

@@ -1,10 +1,11 @@
 //! The branches of a domain over those of the next.
-ghost use Rattle.std.specs.Prelude.{◌≡◌, All, length, IfOk, IfSome, IsSomeAnd};
+ghost use Rattle.std.specs.Prelude.{◌≡◌, ◌++◌, ◌∷◌, All, length, IfOk, IfSome, IsSomeAnd};
+ghost use Rattle.pcep_subobjects.specs.Hops.{strict_hop};
 ghost use Rattle.vspt_tree.specs.Branches.{HasBranchAt, IsFirstLeast, IsBranchOf, AreBranchesOf};
 
 use crate::{Best, Branch};
 use dom_base::{Addr, List, NoMemory};
-use pcep_subobjects::{Hop, append_hops, strict_hop};
+use pcep_subobjects::{Hop, append_hops, copy_hops, strict_hop};
 use std::alloc::Global;
 
 fn first_least(down: &[Branch], node: Addr) -> Option<&Branch>
@@ -16,17 +17,29 @@ fn first_least(down: &[Branch], node: Addr) -> Option<&Branch>
         .min_by_key(|branch| branch.cost)
 }
 
+// Hops, the exit behind them, and the hops beyond it.
+fn joined(alloc: Global, own: &[Hop], exit: Addr, beyond: &[Hop]) -> Result<List<Hop>, NoMemory>
+    ensures { IfOk result (λ hops. hops ≡ own.now ++ strict_hop exit ∷ beyond.now) }
+{
+    let count = own.len().saturating_add(1).saturating_add(beyond.len());
+    let mut hops = List::from_vec(Vec::with_capacity(alloc, count)?);
+    append_hops(alloc, &mut hops, own)?;
+    hops.push(strict_hop(exit))?;
+    append_hops(alloc, &mut hops, beyond)?;
+    Ok(hops)
+}
+
 fn branch_of(alloc: Global, row: &Best, own: &[Hop], down: &[Branch]) -> Result<Branch, NoMemory>
     requires { IfSome row.now.head (HasBranchAt down.now) }
     ensures { IfOk result (λ branch. IsBranchOf down.now row.now own.now branch) }
 {
-    let mut hops = List::new(alloc);
-    append_hops(alloc, &mut hops, own)?;
-    if let Some(head) = row.head {
-        let next = first_least(down, head).unwrap();
-        hops.push(strict_hop(row.exit))?;
-        append_hops(alloc, &mut hops, next.hops.as_slice())?;
-    }
+    let hops = match row.head {
+        Some(head) => {
+            let next = first_least(down, head).unwrap();
+            joined(alloc, own, row.exit, next.hops.as_slice())?
+        }
+        None => copy_hops(alloc, own)?,
+    };
     Ok(Branch {
         entry: row.entry,
         cost: row.cost,

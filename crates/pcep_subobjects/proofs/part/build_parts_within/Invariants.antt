@@ -1,6 +1,6 @@
 use Rattle.std.proofs.Common.{◌≡◌, ◌+◌, length}
 use Rattle.dom_base.specs.Parts.{parts_from, with_front}
-use Rattle.pcep_subobjects.proofs.part.build_parts.Given as goal
+use Rattle.pcep_subobjects.proofs.part.build_parts_within.Given as goal
 
 abbrev pub invariant-loop-rest : goal.invariant-loop-rest
 invariant-loop-rest g l = record {

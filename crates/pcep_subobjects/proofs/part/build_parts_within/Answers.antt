@@ -3,7 +3,7 @@ use Rattle.std.proofs.lemmas.List.{length-drop}
 use Rattle.dom_base.specs.Parts.{parts_from}
 use Rattle.dom_base.proofs.Parts.{goes_on, ends}
 use Rattle.pcep_subobjects.proofs.PartLaws.{is_good, some_left, none_left}
-use Rattle.pcep_subobjects.proofs.part.build_parts.Goals as goal
+use Rattle.pcep_subobjects.proofs.part.build_parts_within.Goals as goal
 
 pub build-requires : goal.build-requires
 build-requires g c = is_good g.P.Part.at c.loop-rest.built c.loop-rest.place c.loop-rest.rest.now (parts_from g.P.Part.at c.args.start 0 c.args.bytes.now) c.loop-rest.invariant.reading c.requires.good (some_left c.loop-rest.rest.now (sym c.is_empty.ensures ∙ c.loop-rest-test.true))
