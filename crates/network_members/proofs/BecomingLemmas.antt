@@ -2,16 +2,17 @@
 use Rattle.std.proofs.Common.{◌≡◌, ◌<◌, ℕ, true, is_some, Option, Some, None, Result, Ok, Err, List, length, map, get_or, set, refl, sym, ◌∙◌, ap, ap₂, subst}
 use Rattle.std.specs.Prelude.{IfErr, IfOk, IfSome}
 use Rattle.std.proofs.lemmas.Bool.{false≢true}
+use Rattle.std.proofs.lemmas.Grind.{get_or-set_at}
 use Rattle.std.proofs.lemmas.List.{get_or_read}
 use Rattle.pce_common.specs.plant_model.Types.{As, NetworkParts}
 use Rattle.pce_common.specs.plant_model.Names.{set_as}
 use Rattle.pce_common.specs.plant_model.Element.{Element}
 use Rattle.pce_element.specs.Seen.{Seen, SameButRoom, with_losing}
-use Rattle.network_members.specs.Elements.{own_of, at_domain, no_one, elements_in, current_or, current_in, IsFirstAt, IsNowhere}
+use Rattle.network_members.specs.Elements.{own_of, at_domain, no_one, elements_in, current_or, current_in, with_seen, IsFirstAt, IsNowhere}
 use Rattle.network_members.specs.Becoming.{Course, Becomes, BecomesAt, HasElement}
-use Rattle.network_members.proofs.DomainLemmas.{found_own, first_own, at_first, at_nowhere, set_first, owns_set, elements_with, currents_with, set_again}
+use Rattle.network_members.proofs.DomainLemmas.{found_own, first_own, first_within, at_first, at_nowhere, set_first, owns_set, elements_with, currents_with, set_again}
 
-some_one : {A : Type 0} → (a b : A) → Some a ≡ Some b → a ≡ b
+pub some_one : {A : Type 0} → (a b : A) → Some a ≡ Some b → a ≡ b
 some_one a b is = cc
 
 pub ok_more : {A E : Type 0} (P Q : A → Type 0) (r : Result A E) → ((x : A) → P x → Q x) → IfOk r P → IfOk r Q
@@ -63,14 +64,41 @@ module _ {P : Type 0} {S : Type 0} (initial : As → P) where
 
   -- ---- what stands at the place of a domain
 
-  pub from_here : (d : As) (i : ℕ) (es : List (Seen P S)) (x : Seen P S) → IsFirstAt d i (map own_of es) → at_domain d es ≡ Some x → x ≡ get_or es i (no_one initial)
-  from_here d i es x first found = some_one x (get_or es i (no_one initial)) (sym found ∙ at_first d i es (no_one initial) first)
-
   pub there_of : (F : Seen P S → Type 0) (d : As) (i : ℕ) (es : List (Seen P S)) → IsFirstAt d i (map own_of es) → F (get_or es i (no_one initial)) → IfSome (at_domain d es) F
   there_of F d i es first is = subst (λ (o : Option (Seen P S)). IfSome o F) (sym (at_first d i es (no_one initial) first)) is
 
   pub of_there : (F : Seen P S → Type 0) (d : As) (i : ℕ) (es : List (Seen P S)) → IsFirstAt d i (map own_of es) → IfSome (at_domain d es) F → F (get_or es i (no_one initial))
   of_there F d i es first is = subst (λ (o : Option (Seen P S)). IfSome o F) (at_first d i es (no_one initial) first) is
+
+-- ---- the element of a domain is written where it stands
+
+module _ {P : Type 0} {S : Type 0} (d : As) (i : ℕ) (items old : List (Seen P S)) (is_old : items ≡ old) (is_first : IsFirstAt d i (map own_of old)) where
+  placed : IsFirstAt d i (map own_of items)
+  placed = subst (λ (es : List (Seen P S)). IsFirstAt d i (map own_of es)) (sym is_old) is_first
+
+  pub placed_within : i < length items
+  placed_within = first_within d i items placed
+
+  pub placed_there : (e : Seen P S) → e ≡ get_or items i e → at_domain d old ≡ Some e
+  placed_there e is = sym (ap (at_domain d) is_old) ∙ at_first d i items e placed ∙ ap (λ (x : Seen P S). Some x) (sym is)
+
+  module _ (f : Course P S) (e next : Seen P S) (is : e ≡ get_or items i e) (same : SameButRoom (with_losing (f e.losing) e) next) where
+    pub owns_written : map own_of (set items i next) ≡ map own_of items
+    owns_written = owns_set i items next e (ap own_of same ∙ ap own_of is)
+
+    pub written : Becomes d f old (set items i next)
+    written = record {
+      one = e;
+      found = placed_there e is;
+      next = next;
+      same = same;
+      is = set_first d i items next (ap own_of same ∙ ap own_of is ∙ first_own d i items e placed) placed ∙ ap (with_seen next) is_old;
+    }
+
+    pub written_there : at_domain d (set items i next) ≡ Some next
+    written_there =
+        at_first d i (set items i next) next (subst (IsFirstAt d i) (sym owns_written) placed)
+        ∙ ap (λ (x : Seen P S). Some x) (get_or-set_at items i i next next refl placed_within)
 
 -- ---- what the model has of it
 

@@ -10,23 +10,21 @@ use Rattle.pce_common.specs.plant_model.Settings.{place}
 use Rattle.pce_common.specs.Membership.{Membership, KeysBefore, expired}
 use Rattle.pce_common.specs.Owed.{pending_at}
 use Rattle.pce_element.specs.Seen.{Seen, SameButRoom, with_losing}
-use Rattle.network_members.specs.Elements.{own_of, at_domain, no_one, element_or, elements_in, current_or}
-use Rattle.network_members.specs.Becoming.{AreBefore, AreTicked, BecomesAt, TickedTo, all_pending, pending_of, ticked_by}
+use Rattle.network_members.specs.Elements.{own_of, at_domain, element_or, elements_in, current_or}
+use Rattle.network_members.specs.Becoming.{AreBefore, AreTicked, TickedTo, all_pending, pending_of, ticked_by}
 use Rattle.network_members.specs.Tiers.{Tiers, ArePlaced, AreSet, Become, members_of, lost_in, lost_or}
 use Rattle.network_members.proofs.RisingDomains.{AreFound, all_found, element_is}
 
 module _ {P : Type 0} {S : Type 0} (initial : As → P) where
   -- ---- one more
 
-  pub ticked_more : (now i : ℕ) (old mid new : List (Seen P S)) → TickedTo now i old mid → i < length old → BecomesAt initial i (ticked_by now) mid new → TickedTo now (suc i) old new
-  ticked_more now i [] mid new to within b = absurd (omega (arith, within))
-  ticked_more now zero (x ∷ xs) mid new to within b =
-      subst (TickedTo now (suc zero) (x ∷ xs)) (sym (b.is ∙ ap (λ (es : List (Seen P S)). set es zero b.next) to))
-      (subst (λ (es : List (Seen P S)). SameButRoom (with_losing (ticked_by now (get_or es zero (no_one initial)).losing) (get_or es zero (no_one initial))) b.next) to b.same, refl)
-  ticked_more now (suc i) (x ∷ xs) [] new to within b = absurd to
-  ticked_more now (suc i) (x ∷ xs) (y ∷ ys) new to within b =
-      subst (TickedTo now (suc (suc i)) (x ∷ xs)) (sym b.is)
-      (to.0, ticked_more now i xs ys (set ys i b.next) to.1 (omega (arith, within)) (record { next = b.next; same = b.same; is = refl }))
+  pub ticked_more : (now i : ℕ) (old mid : List (Seen P S)) (e next : Seen P S) → TickedTo now i old mid → i < length old → e ≡ get_or mid i e → SameButRoom (with_losing (ticked_by now e.losing) e) next → TickedTo now (suc i) old (set mid i next)
+  ticked_more now i [] mid e next to within is same = absurd (omega (arith, within))
+  ticked_more now zero (x ∷ xs) mid e next to within is same =
+      subst (λ (es : List (Seen P S)). TickedTo now (suc zero) (x ∷ xs) (set es zero next)) (sym to)
+      (subst (λ (y : Seen P S). SameButRoom (with_losing (ticked_by now y.losing) y) next) (is ∙ ap (λ (es : List (Seen P S)). get_or es zero e) to) same, refl)
+  ticked_more now (suc i) (x ∷ xs) [] e next to within is same = absurd to
+  ticked_more now (suc i) (x ∷ xs) (y ∷ ys) e next to within is same = (to.0, ticked_more now i xs ys e next to.1 (omega (arith, within)) is same)
 
   pub ticked_length : (now i : ℕ) (old new : List (Seen P S)) → TickedTo now i old new → length new ≡ length old
   ticked_length now zero old new to = ap length to
@@ -36,11 +34,11 @@ module _ {P : Type 0} {S : Type 0} (initial : As → P) where
   ticked_length now (suc i) (x ∷ xs) (y ∷ ys) to = ap suc (ticked_length now i xs ys to.1)
 
   -- the next one is as it was
-  pub before_at : (now i : ℕ) (old new : List (Seen P S)) → TickedTo now i old new → AreBefore now old → i < length old → (get_or new i (no_one initial)).losing.element.keys.clock ≤ now
-  before_at now i [] new to before within = absurd (omega (arith, within))
-  before_at now zero (x ∷ xs) new to before within = subst (λ (es : List (Seen P S)). (get_or es zero (no_one initial)).losing.element.keys.clock ≤ now) (sym to) before.0
-  before_at now (suc i) (x ∷ xs) [] to before within = absurd to
-  before_at now (suc i) (x ∷ xs) (y ∷ ys) to before within = before_at now i xs ys to.1 before.1 (omega (arith, within))
+  pub before_at : (now i : ℕ) (old new : List (Seen P S)) (e : Seen P S) → TickedTo now i old new → AreBefore now old → i < length old → e ≡ get_or new i e → e.losing.element.keys.clock ≤ now
+  before_at now i [] new e to before within is = absurd (omega (arith, within))
+  before_at now zero (x ∷ xs) new e to before within is = subst (λ (y : Seen P S). y.losing.element.keys.clock ≤ now) (sym (is ∙ ap (λ (es : List (Seen P S)). get_or es zero e) to)) before.0
+  before_at now (suc i) (x ∷ xs) [] e to before within is = absurd to
+  before_at now (suc i) (x ∷ xs) (y ∷ ys) e to before within is = before_at now i xs ys e to.1 before.1 (omega (arith, within)) is
 
   -- ---- all of them
 

@@ -1,64 +1,16 @@
 //! One element of a network goes on.
-ghost use Rattle.std.specs.Prelude.{◌≡◌, ◌≤◌, ◌<◌, length, map, Some, IfOk, IfSome};
-ghost use Rattle.std.specs.List.{slice_index_or};
+ghost use Rattle.std.specs.Prelude.{◌≡◌, map, Some, IfOk, IfSome};
 ghost use Rattle.pce_common.specs.plant_model.Element.{upped, down_of, next_lost_of};
 ghost use Rattle.pce_element.specs.pce_common.Messages.{HasOnePart};
-ghost use Rattle.network_members.specs.Elements.{at_domain, no_one, own_of, IsFirstAt};
-ghost use Rattle.network_members.specs.Becoming.{Becomes, BecomesAt, HasElement, taken_by, unchanged};
+ghost use Rattle.network_members.specs.Elements.{at_domain, own_of, IsFirstAt};
+ghost use Rattle.network_members.specs.Becoming.{Becomes, HasElement, taken_by, unchanged};
 
 use crate::elements::{Elements, place_of};
 use disclosure::Class;
 use dom_base::{As, NoMemory, Peer, Tick};
 use pce_common::model::Lost;
-use pce_element::{Element, Plan, World};
+use pce_element::{Plan, World};
 use pcep_messages::Message;
-
-fn take_at<W: World>(
-    items: &mut Vec<Element<W>>,
-    i: usize,
-    peer: Peer,
-    class: Class,
-    message: Message,
-    now: Tick,
-) -> Result<Plan<W>, NoMemory>
-    requires within { i < length items.old.items }
-    requires part { HasOnePart message }
-    ensures same { BecomesAt W.first i unchanged items.old.items items.new.items }
-    ensures from { IfOk result (λ plan. plan.from ≡ slice_index_or items.new.items i (no_one W.first)) }
-    ensures taken { IfOk result (λ plan. plan.taken ≡ taken_by W.show peer class now.0 message (slice_index_or items.old.items i (no_one W.first))) }
-{
-    items[i].take(peer, class, message, now)
-}
-
-fn make_at<W: World>(items: &mut Vec<Element<W>>, i: usize, plan: Plan<W>)
-    requires within { i < length items.old.items }
-    requires from { plan.from ≡ slice_index_or items.old.items i (no_one W.first) }
-    ensures { BecomesAt W.first i (λ l. record l { element = plan.taken.element }) items.old.items items.new.items }
-{
-    items[i].make(plan);
-}
-
-fn up_at<W: World>(items: &mut Vec<Element<W>>, i: usize, peer: Peer)
-    requires { i < length items.old.items }
-    ensures { BecomesAt W.first i (λ l. record l { element = upped peer l.element }) items.old.items items.new.items }
-{
-    items[i].up(peer);
-}
-
-fn down_at<W: World>(items: &mut Vec<Element<W>>, i: usize, peer: Peer)
-    requires { i < length items.old.items }
-    ensures { BecomesAt W.first i (down_of peer) items.old.items items.new.items }
-{
-    items[i].down(peer);
-}
-
-fn next_lost_at<W: World>(items: &mut Vec<Element<W>>, i: usize) -> Option<Lost>
-    requires { i < length items.old.items }
-    ensures lost { result ≡ (next_lost_of (slice_index_or items.old.items i (no_one W.first)).losing).0 }
-    ensures rest { BecomesAt W.first i (λ l. (next_lost_of l).1) items.old.items items.new.items }
-{
-    items[i].next_lost()
-}
 
 impl<W: World> Elements<W> {
     /// The place of the element of a domain.
@@ -88,7 +40,7 @@ impl<W: World> Elements<W> {
         ensures taken { IfOk result (λ plan. IfSome (at_domain at self.old) (λ e. plan.taken ≡ taken_by W.show peer class now.0 message e)) }
     {
         let i = self.place(at);
-        take_at(&mut self.items, i, peer, class, message, now)
+        self.items[i].take(peer, class, message, now)
     }
 
     /// Makes a plan; takes no memory.
@@ -97,7 +49,7 @@ impl<W: World> Elements<W> {
         ensures { Becomes at (λ l. record l { element = plan.taken.element }) self.old self.new }
     {
         let i = self.place(at);
-        make_at(&mut self.items, i, plan);
+        self.items[i].make(plan);
     }
 
     /// A session of the element of a domain comes up; takes no memory.
@@ -106,7 +58,7 @@ impl<W: World> Elements<W> {
         ensures { Becomes at (λ l. record l { element = upped peer l.element }) self.old self.new }
     {
         let i = self.place(at);
-        up_at(&mut self.items, i, peer);
+        self.items[i].up(peer);
     }
 
     /// A session of the element of a domain goes down; takes no memory.
@@ -115,7 +67,7 @@ impl<W: World> Elements<W> {
         ensures { Becomes at (down_of peer) self.old self.new }
     {
         let i = self.place(at);
-        down_at(&mut self.items, i, peer);
+        self.items[i].down(peer);
     }
 
     /// Hands out the first lost request of the element of a domain; takes no memory.
@@ -125,6 +77,6 @@ impl<W: World> Elements<W> {
         ensures rest { Becomes at (λ l. (next_lost_of l).1) self.old self.new }
     {
         let i = self.place(at);
-        next_lost_at(&mut self.items, i)
+        self.items[i].next_lost()
     }
 }

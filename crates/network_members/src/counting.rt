@@ -1,27 +1,18 @@
 //! All elements of a network: their moment, and how many requests are pending.
-ghost use Rattle.std.specs.Prelude.{◌≡◌, ◌≤◌, ◌<◌, length, IfSome};
-ghost use Rattle.std.specs.List.{slice_index_or};
-ghost use Rattle.network_members.specs.Elements.{at_domain, no_one};
-ghost use Rattle.network_members.specs.Becoming.{AreBefore, AreTicked, BecomesAt, HasElement, all_pending, owed_by, ticked_by};
+ghost use Rattle.std.specs.Prelude.{◌≡◌, ◌≤◌, length, IfSome};
+ghost use Rattle.network_members.specs.Elements.{at_domain};
+ghost use Rattle.network_members.specs.Becoming.{AreBefore, AreTicked, HasElement, all_pending, owed_by, ticked_by};
 
 use crate::elements::Elements;
 use dom_base::{As, Peer, Tick};
 use pce_element::{Element, World};
-
-fn tick_at<W: World>(items: &mut Vec<Element<W>>, i: usize, now: Tick)
-    requires within { i < length items.old.items }
-    requires clock { (slice_index_or items.old.items i (no_one W.first)).losing.element.keys.clock ≤ now.0 }
-    ensures { BecomesAt W.first i (ticked_by now.0) items.old.items items.new.items }
-{
-    items[i].tick(now);
-}
 
 fn tick_all<W: World>(items: &mut Vec<Element<W>>, now: Tick)
     requires { AreBefore now.0 items.old.items }
     ensures { AreTicked now.0 items.old.items items.new.items }
 {
     for i in 0..items.len() {
-        tick_at(items, i, now);
+        items[i].tick(now);
     }
 }
 

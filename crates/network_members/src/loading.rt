@@ -1,6 +1,5 @@
 //! Members with topologies: one is loaded or looked at, and jobs are looked at.
-ghost use Rattle.std.specs.Prelude.{◌≡◌, ◌<◌, length, IfOk, IfSome, false, true};
-ghost use Rattle.std.specs.List.{slice_index_or};
+ghost use Rattle.std.specs.Prelude.{◌≡◌, IfOk, IfSome, false, true};
 ghost use Rattle.std.specs.Option.{option_map};
 ghost use Rattle.std.specs.Arc.{arc_value};
 ghost use Rattle.plant_text.specs.Names.{same_as, parent_as};
@@ -9,7 +8,7 @@ ghost use Rattle.pce_element.specs.Jobs.{work_of};
 ghost use Rattle.pce_element.specs.Rows.{pin_with};
 ghost use Rattle.network_members.specs.Answering.{IsElementWork, IsParentWork, IsWeighedWork, border_job};
 ghost use Rattle.network_members.specs.Current.{IsCurrent};
-ghost use Rattle.network_members.specs.Elements.{at_domain, no_one, LoadsAt, LoadsPlace, told};
+ghost use Rattle.network_members.specs.Elements.{at_domain, LoadsAt, told};
 ghost use Rattle.network_members.specs.Loading.{Loads};
 ghost use Rattle.network_members.specs.Ready.{work_in};
 ghost use Rattle.network_members.specs.Tiers.{members_of};
@@ -19,23 +18,11 @@ use crate::hierarchy::{Hierarchy, is_parent};
 use border_costs::Job;
 use dom_base::{As, NoMemory};
 use pce_common::model::Refused;
-use pce_element::{Element, Topologies};
+use pce_element::Topologies;
 use pce_parent::Work;
 use std::sync::Arc;
 use te_generations::LoadError;
 use te_links::Topology;
-
-fn load_at(
-    items: &mut Vec<Element<Topologies>>,
-    i: usize,
-    topology: Topology,
-) -> Result<u64, LoadError>
-    requires within { i < length items.old.items }
-    requires own { topology.own ≡ (slice_index_or items.old.items i (no_one first_pin)).place.own }
-    ensures { LoadsPlace i topology items.old.items result items.new.items }
-{
-    items[i].load(topology)
-}
 
 // Why a load is refused.
 fn told(loaded: Result<u64, LoadError>) -> Result<u64, Refused>
@@ -57,7 +44,7 @@ impl Elements<Topologies> {
         let Some(i) = place_of(&self.domains, at) else {
             return Err(Refused::NoSuchPeer);
         };
-        told(load_at(&mut self.items, i, topology))
+        told(self.items[i].load(topology))
     }
 
     /// The current topology of the element of a domain, and its number.
