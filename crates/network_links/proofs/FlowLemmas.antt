@@ -12,11 +12,11 @@ use Rattle.plant_model.specs.Deeds.{on_connection, our_offer, with_more}
 use Rattle.plant_model.specs.Events.{drained}
 use Rattle.network_links.specs.Ends.{Sender, begun, fed_while_up, own_bytes, with_kept}
 use Rattle.network_links.specs.Rooms.{Spends, Frees, queue}
-use Rattle.network_links.specs.Flow.{Flow, Room, SameFlow, set_queue, set_session, set_room, change_access, put_at, put_flow, SpendsAt, Puts, Begins, DropsFirst, Clears, GrowsAt, KeepsRoomAt, Connects, just_opened, shut}
+use Rattle.network_links.specs.Flow.{Flow, Room, SameFlow, set_queue, set_session, set_room, change_access, put_at, put_flow, SpendsAt, Puts, Begins, DropsFirst, Clears, GrowsAt, KeepsRoomAt, Connects, just_opened}
 use Rattle.network_links.specs.Sides as sides
 use Rattle.network_links.specs.Sides.{Side, Row, set_side, SideChanges, BothSidesChange}
-use Rattle.network_links.specs.Accesses.{ConnectsGuest, DrainsConnection, DrainsGuest, DrainsHeld, FeedsConnection, FeedsGuest, Goes, GrowsGuest, SendsGuest, Shuts}
-use Rattle.network_links.specs.Peers.{Changes, Guest, Guests, guest_at, set_guest}
+use Rattle.network_links.specs.Accesses.{ConnectsGuest, DrainsConnection, DrainsGuest, DrainsHeld, FeedsConnection, FeedsGuest, Goes, GrowsGuest, SendsGuest}
+use Rattle.network_links.specs.Peers.{Changes, Guests, guest_at}
 use Rattle.network_links.specs.Happenings.{FeedsIn, FeedsConnectionIn, DrainsIn, DrainsConnectionIn, DrainsHeldIn}
 use Rattle.network_links.specs.declared.peers.Drained.{Drained}
 use Rattle.plant_model.specs.declared.outcome.Refused.{Refused}
@@ -176,9 +176,6 @@ module _ (a : CarriedView) (i : ℕ) (g : Guests) where
 
   pub access_changes : (k : model.Connection → model.Connection) → Changes i (Goes k) a.peers g → with_peers g ≡ change_access i k before
   access_changes k h = ap with_peers (goes i a.peers g h.rest k h.does)
-
-  pub outside_shuts : Changes i Shuts a.peers g → with_peers g ≡ shut i before
-  outside_shuts h = ap with_peers (h.rest ∙ ap (λ (x : Guest). set_guest i x a.peers) h.does)
 
   pub outside_connects : (holder : ℕ) (result : Result (Unit {0}) NoMemory) → Changes i (ConnectsGuest holder (record { 0 = a.clock }) result) a.peers g → Connects i holder before result (with_peers g)
   outside_connects holder result h = record {
