@@ -10,7 +10,7 @@ use Rattle.pce_common.specs.plant_model.Settings.{place}
 use Rattle.pce_common.specs.Membership.{Membership, KeysBefore, expired}
 use Rattle.pce_common.specs.Owed.{pending_at}
 use Rattle.pce_element.specs.Seen.{Seen, SameButRoom, with_losing}
-use Rattle.network_members.specs.Elements.{own_of, at_domain, no_one, element_or, elements_in, current_or}
+use Rattle.network_members.specs.Elements.{own_of, at_domain, element_or, elements_in, current_or}
 use Rattle.network_members.specs.Becoming.{AreBefore, AreTicked, TickedTo, all_pending, pending_of, ticked_by}
 use Rattle.network_members.specs.Tiers.{Tiers, ArePlaced, AreSet, Become, members_of, lost_in, lost_or}
 use Rattle.network_members.proofs.RisingDomains.{AreFound, all_found, element_is}

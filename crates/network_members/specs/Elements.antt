@@ -1,6 +1,5 @@
 -- Elements by their domains.
-use Rattle.std.specs.Prelude.{◌≡◌, ◌↔◌, ◌⊎◌, ℕ, zero, suc, true, false, cond, List, [], ◌∷◌, Option, Some, None, Result, Ok, Err, IfOk, OnOk, OnErr, IsTrue, slice_set}
-use Rattle.std.specs.List.{slice_index_or}
+use Rattle.std.specs.Prelude.{◌≡◌, ◌↔◌, ◌⊎◌, ℕ, zero, suc, true, false, cond, List, [], ◌∷◌, Option, Some, None, Result, Ok, Err, IfOk, OnOk, OnErr, IsTrue}
 use Rattle.pce_common.specs.plant_model.Types.{As, NetworkParts}
 use Rattle.dom_base.specs.declared.addr.Addr.TheVariants.{V4}
 use Rattle.te_links.specs.Rows.{Rows}
@@ -12,7 +11,7 @@ use Rattle.pce_common.specs.plant_model.declared.outcome.Refused.{Refused}
 use Rattle.pce_common.specs.plant_model.declared.outcome.Refused.TheVariants.{NoSuchPeer, GenerationsFull, NoMemory}
 use Rattle.pce_common.specs.plant_model.Settings.{ways}
 use Rattle.pce_common.specs.plant_model.Element.{Element}
-use Rattle.pce_common.specs.plant_model.Plant.{Pin, Segment, first_pin, is_full}
+use Rattle.pce_common.specs.plant_model.Plant.{Pin, Segment, is_full}
 use Rattle.pce_element.specs.Seen.{Seen, SameButRoom, new_element, with_current}
 
 -- the first element of the domain stands at this place
