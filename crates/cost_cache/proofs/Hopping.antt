@@ -32,16 +32,6 @@ module _ (g : Rows) (labels : List (Option Label)) where
         | inr past ↦ get_or_past (replicate n false) i false (omega (arith, past, length-replicate {A = Bool} n false))
       ]
 
-  -- without seeds no segment ends
-  pub no_ends_yet : (n : ℕ) → n ≡ length g.nodes → AreEnds g [] labels (replicate n false)
-  no_ends_yet n is = record {
-    same_length = length-replicate {A = Bool} n false ∙ is;
-    each = λ i m a at_m at_a. (
-      λ ends. let bad : false ≡ true = sym (no_end n i) ∙ ends in cc,
-      λ has. absurd (omega (arith, has.1)),
-    );
-  }
-
   -- a seed that equals the label of its node
   by_seed : (s : Seed) (n : Addr) (a : Label) (i : ℕ) → slice_get g.nodes i ≡ Some n → label_at labels i ≡ Some a → seed_at n a ≡ s → IsEndBy g labels s i
   by_seed s n a i at_n at_a is = record {

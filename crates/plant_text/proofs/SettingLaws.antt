@@ -1,5 +1,5 @@
 -- What settings are like that obey the rules.
-use Rattle.std.proofs.Common.{◌≡◌, ◌≢◌, ℕ, ◌+◌, ◌==◌, ◌&&◌, ◌||◌, ◌<◌, ◌≤◌, Bool, true, false, not, nat_le, nat_lt, is_some, codes, length, All, AllPairs, List, [], ◌∷◌, ◌++◌, Option, Some, None, IfSome, refl, sym, ◌∙◌, ap, append_assoc, arith, inl, inr}
+use Rattle.std.proofs.Common.{◌≡◌, ◌≢◌, ℕ, zero, suc, ◌+◌, ◌==◌, ◌&&◌, ◌||◌, ◌<◌, ◌≤◌, Bool, true, false, not, nat_le, nat_lt, is_some, codes, All, AllPairs, List, [], ◌∷◌, ◌++◌, Option, Some, None, IfSome, refl, sym, ◌∙◌, ap, append_assoc, arith, inl, inr}
 use Rattle.std.proofs.lemmas.Bool.{cases_Bool, and_parts, leb-true, ltb-true, eqb-false}
 use Rattle.std.proofs.lemmas.Bool.Decides.{not_from_Decides}
 use Rattle.std.proofs.lemmas.Slice.Eq.{bytes_eq-Decides}
@@ -14,7 +14,7 @@ use Rattle.dom_base.specs.AddrOrder.{rank}
 use Rattle.disclosure.specs.declared.class.Class.{Class}
 use Rattle.disclosure.specs.declared.class.Class.TheVariants.{Client, Neighbour, Parent}
 use Rattle.plant_text.specs.declared.fault.Breach.{Breach}
-use Rattle.plant_text.specs.declared.fault.Breach.TheVariants.{TooMany, Shape, Duplicate, Unknown, NoParent}
+use Rattle.plant_text.specs.declared.fault.Breach.TheVariants.{TooMany}
 use Rattle.plant_text.specs.declared.fault.NetFault.TheVariants as fault
 use Rattle.plant_text.specs.declared.settings.NetworkParts.{NetworkParts}
 use Rattle.plant_text.specs.declared.settings.ElementRow.{ElementRow}
@@ -22,7 +22,7 @@ use Rattle.plant_text.specs.declared.settings.PeerRow.{PeerRow}
 use Rattle.plant_text.specs.declared.settings.DenyRow.{DenyRow}
 use Rattle.plant_text.specs.Names.{same_as, same_link, parent_as}
 use Rattle.plant_text.specs.Settings.{is_element}
-use Rattle.plant_text.specs.Rules.{Rules, at_row, rows_from, table, rules_of, sheet_of, is_name, is_class, is_link, is_no_port, is_neighbour, is_reached, leads, leads_out, peer_form, repeats_peer, element_rules, link_rules, peer_rules, deny_rules, parent_link_rules, is_between, is_domain}
+use Rattle.plant_text.specs.Rules.{Rules, at_row, rows_from, table, rules_of, sheet_of, is_name, is_class, is_no_port, is_neighbour, is_reached, leads, leads_out, peer_form, repeats_peer, element_rules, link_rules, peer_rules, deny_rules, parent_link_rules, is_between, is_domain}
 use Rattle.plant_text.specs.Faults.{first_of}
 use Rattle.plant_text.specs.Laws.{AreElements, AreLinks, ArePeers, AreDenials, AreParentLinks, RulesAreWorth}
 use Rattle.plant_text.proofs.RuleLaws.{none_of, none_front, none_back, few_rows}
@@ -47,6 +47,18 @@ tail_clear false x rs none = none
 head_false : {X : Type 0} (b : Bool) (x : X) (rs : Rules X) → first_of ((b, x) ∷ rs) ≡ None → b ≡ false
 head_false true x rs none = absurd (let no : Some x ≡ None = none in cc)
 head_false false x rs none = refl
+
+-- the test of the rule at a place
+abbrev test_at : {X : Type 0} → Rules X → ℕ → Bool
+test_at [] k = false
+test_at (r ∷ rs) zero = r.0
+test_at (r ∷ rs) (suc k) = test_at rs k
+
+-- where none is broken, no test holds
+rule_false : {X : Type 0} (rs : Rules X) (k : ℕ) → first_of rs ≡ None → test_at rs k ≡ false
+rule_false [] k none = refl
+rule_false ((b, x) ∷ rs) zero none = head_false b x rs none
+rule_false ((b, x) ∷ rs) (suc k) none = rule_false rs k (tail_clear b x rs none)
 
 -- a row of rows that break none, and those behind it
 head_clear : {R : Type 0} (name : List ℕ) (limit : ℕ) (asked : List R → R → Rules Breach) (i : ℕ) (before : List R) (row : R) (rows : List R) → first_of (rows_from name limit asked i before (row ∷ rows)) ≡ None → first_of (asked before row) ≡ None
@@ -129,16 +141,11 @@ in_range low high n is =
 
 element_form : (n : NetworkParts) (before : List ElementRow) (e : ElementRow) → first_of (element_rules (sheet_of n) before e) ≡ None → (is_domain e.own && is_between 1 3600 e.key_life) ≡ true
 element_form n before e none =
-    not_false (is_domain e.own && is_between 1 3600 e.key_life)
-    (head_false (not (is_domain e.own && is_between 1 3600 e.key_life)) Shape
-    ((list_any (λ (f : ElementRow). same_as f.own e.own || (rank f.id == rank e.id)) before, Duplicate) ∷ (e.parent && not (is_some n.parent || false), NoParent) ∷ []) none)
+    not_false (is_domain e.own && is_between 1 3600 e.key_life) (rule_false (element_rules (sheet_of n) before e) 0 none)
 
 element_again : (n : NetworkParts) (front : List ElementRow) (d : ElementRow) (back : List ElementRow) (e : ElementRow) → first_of (element_rules (sheet_of n) (front ++ d ∷ back) e) ≡ None → (same_as d.own e.own || (rank d.id == rank e.id)) ≡ false
 element_again n front d back e none =
-    any_false (λ (f : ElementRow). same_as f.own e.own || (rank f.id == rank e.id)) front d back
-    (head_false (list_any (λ (f : ElementRow). same_as f.own e.own || (rank f.id == rank e.id)) (front ++ d ∷ back)) Duplicate ((e.parent && not (is_some n.parent || false), NoParent) ∷ [])
-    (tail_clear (not (is_domain e.own && is_between 1 3600 e.key_life)) Shape
-    ((list_any (λ (f : ElementRow). same_as f.own e.own || (rank f.id == rank e.id)) (front ++ d ∷ back), Duplicate) ∷ (e.parent && not (is_some n.parent || false), NoParent) ∷ []) none))
+    any_false (λ (f : ElementRow). same_as f.own e.own || (rank f.id == rank e.id)) front d back (rule_false (element_rules (sheet_of n) (front ++ d ∷ back) e) 1 none)
 
 child_has : (child parent : Bool) → (child && not (parent || false)) ≡ false → child ≡ true → parent ≡ true
 child_has true true e is = refl
@@ -147,12 +154,7 @@ child_has false parent e is = absurd (let no : false ≡ true = is in cc)
 
 element_child : (n : NetworkParts) (before : List ElementRow) (e : ElementRow) → first_of (element_rules (sheet_of n) before e) ≡ None → e.parent ≡ true → is_some n.parent ≡ true
 element_child n before e none =
-    let again = list_any (λ (f : ElementRow). same_as f.own e.own || (rank f.id == rank e.id)) before in
-    let child = e.parent && not (is_some n.parent || false) in
-    child_has e.parent (is_some n.parent)
-    (head_false child NoParent []
-    (tail_clear again Duplicate ((child, NoParent) ∷ [])
-    (tail_clear (not (is_domain e.own && is_between 1 3600 e.key_life)) Shape ((again, Duplicate) ∷ (child, NoParent) ∷ []) none)))
+    child_has e.parent (is_some n.parent) (rule_false (element_rules (sheet_of n) before e) 2 none)
 
 are_elements : (n : NetworkParts) → AreClear (sheet_of n) → AreElements n
 are_elements n c =
@@ -178,27 +180,6 @@ are_elements n c =
 
 -- ---- links
 
-link_differs : (n : NetworkParts) (before : List (As × As)) (l : As × As) → first_of (link_rules (sheet_of n) before l) ≡ None → l.0 ≢ l.1
-link_differs n before l none =
-    other_as l.0 l.1
-    (head_false (same_as l.0 l.1) Shape
-    ((list_any (λ (m : As × As). same_link m.0 m.1 l.0 l.1) before, Duplicate) ∷ (not (is_element n l.0 && is_element n l.1), Unknown) ∷ []) none)
-
-link_again : (n : NetworkParts) (front : List (As × As)) (k : As × As) (back : List (As × As)) (l : As × As) → first_of (link_rules (sheet_of n) (front ++ k ∷ back) l) ≡ None → same_link k.0 k.1 l.0 l.1 ≡ false
-link_again n front k back l none =
-    let again = list_any (λ (m : As × As). same_link m.0 m.1 l.0 l.1) (front ++ k ∷ back) in
-    let unknown = not (is_element n l.0 && is_element n l.1) in
-    any_false (λ (m : As × As). same_link m.0 m.1 l.0 l.1) front k back
-    (head_false again Duplicate ((unknown, Unknown) ∷ []) (tail_clear (same_as l.0 l.1) Shape ((again, Duplicate) ∷ (unknown, Unknown) ∷ []) none))
-
-link_known : (n : NetworkParts) (before : List (As × As)) (l : As × As) → first_of (link_rules (sheet_of n) before l) ≡ None → (is_element n l.0 ≡ true) × (is_element n l.1 ≡ true)
-link_known n before l none =
-    let again = list_any (λ (m : As × As). same_link m.0 m.1 l.0 l.1) before in
-    let unknown = not (is_element n l.0 && is_element n l.1) in
-    and_parts (is_element n l.0) (is_element n l.1)
-    (not_false (is_element n l.0 && is_element n l.1)
-    (head_false unknown Unknown [] (tail_clear again Duplicate ((unknown, Unknown) ∷ []) (tail_clear (same_as l.0 l.1) Shape ((again, Duplicate) ∷ (unknown, Unknown) ∷ []) none))))
-
 are_links : (n : NetworkParts) → AreClear (sheet_of n) → AreLinks n
 are_links n c =
     let none = c.links_clear in
@@ -206,9 +187,13 @@ are_links n c =
     let name = codes "link" in
     record {
       few = few_rows name 120 asked n.links None none;
-      differ = all_in (λ (l : As × As). l.0 ≢ l.1) name 120 asked (link_differs n) n.links none;
-      known = all_in (λ (l : As × As). (is_element n l.0 ≡ true) × (is_element n l.1 ≡ true)) name 120 asked (link_known n) n.links none;
-      once = pairs_in (λ (l m : As × As). same_link l.0 l.1 m.0 m.1 ≡ false) name 120 asked (link_again n) n.links none;
+      differ = all_in (λ (l : As × As). l.0 ≢ l.1) name 120 asked (λ before l clear. other_as l.0 l.1 (rule_false (asked before l) 0 clear)) n.links none;
+      known =
+          all_in (λ (l : As × As). (is_element n l.0 ≡ true) × (is_element n l.1 ≡ true)) name 120 asked
+          (λ before l clear. and_parts (is_element n l.0) (is_element n l.1) (not_false (is_element n l.0 && is_element n l.1) (rule_false (asked before l) 2 clear))) n.links none;
+      once =
+          pairs_in (λ (l m : As × As). same_link l.0 l.1 m.0 m.1 ≡ false) name 120 asked
+          (λ front k back l clear. any_false (λ (m : As × As). same_link m.0 m.1 l.0 l.1) front k back (rule_false (asked (front ++ k ∷ back) l) 1 clear)) n.links none;
     }
 
 -- ---- peers
@@ -216,13 +201,10 @@ are_links n c =
 -- a peer that breaks no rule
 peer_whole : (n : NetworkParts) (before : List PeerRow) (p : PeerRow) → first_of (peer_rules (sheet_of n) before p) ≡ None → peer_form p ≡ true
 peer_whole n before p none =
-    not_false (peer_form p) (head_false (not (peer_form p)) Shape ((repeats_peer (sheet_of n) before p, Duplicate) ∷ (not (is_element n p.at), Unknown) ∷ []) none)
+    not_false (peer_form p) (rule_false (peer_rules (sheet_of n) before p) 0 none)
 
 peer_once : (n : NetworkParts) (before : List PeerRow) (p : PeerRow) → first_of (peer_rules (sheet_of n) before p) ≡ None → repeats_peer (sheet_of n) before p ≡ false
-peer_once n before p none =
-    let again = repeats_peer (sheet_of n) before p in
-    let unknown = not (is_element n p.at) in
-    head_false again Duplicate ((unknown, Unknown) ∷ []) (tail_clear (not (peer_form p)) Shape ((again, Duplicate) ∷ (unknown, Unknown) ∷ []) none)
+peer_once n before p none = rule_false (peer_rules (sheet_of n) before p) 1 none
 
 peer_port : (n : NetworkParts) (before : List PeerRow) (p : PeerRow) → first_of (peer_rules (sheet_of n) before p) ≡ None → 0 < p.port
 peer_port n before p none =
@@ -236,13 +218,6 @@ peer_again n front o back p none =
     other_name o.name p.name
     (any_false (λ (q : PeerRow). bytes_eq q.name p.name) front o back
     (left_false named (p.down && is_reached (sheet_of n) before p.at p.class) (peer_once n before p none)))
-
-peer_known : (n : NetworkParts) (before : List PeerRow) (p : PeerRow) → first_of (peer_rules (sheet_of n) before p) ≡ None → is_element n p.at ≡ true
-peer_known n before p none =
-    let again = repeats_peer (sheet_of n) before p in
-    let unknown = not (is_element n p.at) in
-    not_false (is_element n p.at)
-    (head_false unknown Unknown [] (tail_clear again Duplicate ((unknown, Unknown) ∷ []) (tail_clear (not (peer_form p)) Shape ((again, Duplicate) ∷ (unknown, Unknown) ∷ []) none)))
 
 -- ---- peers that paths go on through
 
@@ -301,7 +276,7 @@ are_peers n c =
     record {
       few = few_rows name 256 asked n.peers None none;
       names_differ = pairs_in (λ (p q : PeerRow). p.name ≢ q.name) name 256 asked (peer_again n) n.peers none;
-      known = all_in (λ (p : PeerRow). is_element n p.at ≡ true) name 256 asked (peer_known n) n.peers none;
+      known = all_in (λ (p : PeerRow). is_element n p.at ≡ true) name 256 asked (λ before p clear. not_false (is_element n p.at) (rule_false (asked before p) 2 clear)) n.peers none;
       ports = all_in (λ (p : PeerRow). 0 < p.port) name 256 asked (peer_port n) n.peers none;
       downs =
           all_in (λ (p : PeerRow). p.down ≡ true → (a : As) × (p.class ≡ Neighbour a) × (is_element n a ≡ false)) name 256 asked
@@ -311,16 +286,6 @@ are_peers n c =
 
 -- ---- rows of policy
 
-denial_next : (n : NetworkParts) (before : List DenyRow) (r : DenyRow) → first_of (deny_rules (sheet_of n) before r) ≡ None → r.deny.next ≢ parent_as
-denial_next n before r none =
-    is_other r.deny.next
-    (not_false (is_domain r.deny.next) (head_false (not (is_domain r.deny.next)) Shape ((not (is_element n r.at), Unknown) ∷ []) none))
-
-denial_known : (n : NetworkParts) (before : List DenyRow) (r : DenyRow) → first_of (deny_rules (sheet_of n) before r) ≡ None → is_element n r.at ≡ true
-denial_known n before r none =
-    not_false (is_element n r.at)
-    (head_false (not (is_element n r.at)) Unknown [] (tail_clear (not (is_domain r.deny.next)) Shape ((not (is_element n r.at), Unknown) ∷ []) none))
-
 are_denials : (n : NetworkParts) → AreClear (sheet_of n) → AreDenials n
 are_denials n c =
     let none = c.deny_clear in
@@ -328,19 +293,16 @@ are_denials n c =
     let name = codes "deny" in
     record {
       few = few_rows name 4096 asked n.deny None none;
-      known = all_in (λ (r : DenyRow). is_element n r.at ≡ true) name 4096 asked (denial_known n) n.deny none;
-      domains = all_in (λ (r : DenyRow). r.deny.next ≢ parent_as) name 4096 asked (denial_next n) n.deny none;
+      known = all_in (λ (r : DenyRow). is_element n r.at ≡ true) name 4096 asked (λ before r clear. not_false (is_element n r.at) (rule_false (asked before r) 1 clear)) n.deny none;
+      domains = all_in (λ (r : DenyRow). r.deny.next ≢ parent_as) name 4096 asked (λ before r clear. is_other r.deny.next (not_false (is_domain r.deny.next) (rule_false (asked before r) 0 clear))) n.deny none;
     }
 
 -- ---- links of the parent
 
 parent_link_again : (n : NetworkParts) (front : List ParentLink) (k : ParentLink) (back : List ParentLink) (l : ParentLink) → first_of (parent_link_rules (sheet_of n) (front ++ k ∷ back) l) ≡ None → ((rank k.link.near == rank l.link.near) || (rank k.link.far == rank l.link.far)) ≡ false
 parent_link_again n front k back l none =
-    let again = list_any (λ (p : ParentLink). (rank p.link.near == rank l.link.near) || (rank p.link.far == rank l.link.far)) (front ++ k ∷ back) in
-    let unformed = not ((is_domain l.from_as && is_domain l.to_as) && is_link l.link) in
     any_false (λ (p : ParentLink). (rank p.link.near == rank l.link.near) || (rank p.link.far == rank l.link.far)) front k back
-    (head_false again Duplicate []
-    (tail_clear unformed Shape ((again, Duplicate) ∷ []) (tail_clear (nat_lt 8 (length l.link.srlgs)) TooMany ((unformed, Shape) ∷ (again, Duplicate) ∷ []) none)))
+    (rule_false (parent_link_rules (sheet_of n) (front ++ k ∷ back) l) 2 none)
 
 are_parent_links : (n : NetworkParts) → AreClear (sheet_of n) → AreParentLinks n
 are_parent_links n c =

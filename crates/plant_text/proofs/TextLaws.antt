@@ -1,16 +1,12 @@
 -- The keys of a table, and the items of a list one by one.
-use Rattle.std.proofs.Common.{◌≡◌, ℕ, ◌+◌, ◌<◌, Bool, ◌&&◌, String, Global, string_bytes, length, get_or, drop, find, List, [], ◌∷◌, ◌++◌, Option, Some, None, option_map, refl, sym, ◌∙◌, ap, append_assoc, add-one, inl, inr}
+use Rattle.std.proofs.Common.{◌≡◌, ℕ, Bool, ◌&&◌, String, Global, string_bytes, length, find, List, [], ◌∷◌, ◌++◌, Option, Some, None, option_map, refl, ap, add-one, inl, inr}
 use Rattle.std.proofs.lemmas.Bool.{cases_Bool}
-use Rattle.std.proofs.lemmas.List.{append-nil}
 use Rattle.std.specs.List.{list_all}
 use Rattle.std.specs.Map.{keys_of}
-use Rattle.toml.specs.Data.{item}
 use Rattle.toml.specs.declared.value.Value.{Value}
-use Rattle.toml.specs.View.{view, items_view, members_view}
-use Rattle.toml.proofs.Views.{items_view-drop}
-use Rattle.plant_text.specs.declared.fault.Breach.{Breach}
+use Rattle.toml.specs.View.{items_view, members_view}
 use Rattle.plant_text.specs.declared.rows.Found.{Found}
-use Rattle.plant_text.specs.SettingsText.{names, item_count, with_row, nothing}
+use Rattle.plant_text.specs.SettingsText.{names, item_count}
 
 -- ---- keys
 
@@ -32,9 +28,6 @@ pub count_is : (vs : List Value) → item_count (items_view vs) ≡ length vs
 count_is [] = refl
 count_is (v ∷ vs) = rw (count_is vs) (add-one (length vs))
 
-pub items_at : (vs : List Value) (i : ℕ) (v : Value) → i < length vs → v ≡ get_or vs i v → items_view (drop i vs) ≡ item (view v) (items_view (drop (i + 1) vs))
-items_at vs i v inside is = items_view-drop vs i v inside ∙ ap (λ x. item (view x) (items_view (drop (i + 1) vs))) (sym is)
-
 -- numbers in front of those that are still to be read
 abbrev pub in_front : List ℕ → Option (List ℕ) → Option (List ℕ)
 in_front done (Some ns) = Some (done ++ ns)
@@ -43,12 +36,3 @@ in_front done None = None
 -- rows in front of them
 abbrev pub ahead : {R : Type 0} → List R → Found R → Found R
 ahead done others = record { rows = done ++ others.rows; cut = others.cut }
-
-pub one_ahead : {R : Type 0} (done : List R) (row : R) (wrong : Breach) (others : Found R) → ahead done (with_row (Some row) wrong others) ≡ ahead (done ++ row ∷ []) others
-one_ahead done row wrong others = ap (λ rs. record { rows = rs; cut = others.cut }) (sym (append_assoc done (row ∷ []) others.rows))
-
-pub cut_ahead : {R : Type 0} (done : List R) (wrong : Breach) (others : Found R) → ahead done (with_row None wrong others) ≡ record { rows = done; cut = Some wrong }
-cut_ahead done wrong others = ap (λ rs. record { rows = rs; cut = Some wrong }) (append-nil done)
-
-pub all_ahead : {R : Type 0} (done : List R) → ahead done nothing ≡ record { rows = done; cut = None }
-all_ahead done = ap (λ rs. record { rows = rs; cut = None }) (append-nil done)

@@ -1,6 +1,5 @@
-use Rattle.std.proofs.Common.{◌≡◌, refl}
-use Rattle.lru.specs.LruCache.{lru_cache, put_entries}
-use Rattle.cost_cache.specs.Keys.{key_of, same_key}
+use Rattle.std.proofs.Common.{refl}
+use Rattle.cost_cache.specs.Keys.{key_of}
 use Rattle.cost_cache.proofs.Keeping.{found_in, not_found_in, put_in, used_in, has_after, good_after, others_after}
 use Rattle.cost_cache.proofs.cache.Cache.solve.Goals as goal
 
@@ -13,45 +12,27 @@ answer-requires g c κs =
 
 pub returns-in-Some-clause-has : goal.returns-in-Some-clause-has
 returns-in-Some-clause-has g c =
-    let old = c.args.self.now in
-    let new = c.promote.new.self in
-    let key = key_of c.args.ask.now in
-    let kept = c.in-Some.kept.now in
-    let is : new ≡ lru_cache (put_entries same_key old key kept) old.cap =
-    used_in c.self.inside.entries old c.in_ok-key.key key c.self.view_is c.in_ok-key.ensures new kept c.in-Some.ensures c.promote.ensures.entries in
-    has_after old new key kept is
+    has_after c.args.self.now c.promote.new.self (key_of c.args.ask.now) c.in-Some.kept.now
+    (used_in c.self.inside.entries c.args.self.now c.in_ok-key.key (key_of c.args.ask.now) c.self.view_is c.in_ok-key.ensures c.promote.new.self c.in-Some.kept.now c.in-Some.ensures c.promote.ensures.entries)
 
 pub returns-in-Some-clause-others : goal.returns-in-Some-clause-others
-returns-in-Some-clause-others g c =
-    let old = c.args.self.now in
-    let new = c.promote.new.self in
-    let key = key_of c.args.ask.now in
-    let kept = c.in-Some.kept.now in
-    let is : new ≡ lru_cache (put_entries same_key old key kept) old.cap =
-    used_in c.self.inside.entries old c.in_ok-key.key key c.self.view_is c.in_ok-key.ensures new kept c.in-Some.ensures c.promote.ensures.entries in
-    (kept, is)
+returns-in-Some-clause-others g c = (
+  c.in-Some.kept.now,
+  used_in c.self.inside.entries c.args.self.now c.in_ok-key.key (key_of c.args.ask.now) c.self.view_is c.in_ok-key.ensures c.promote.new.self c.in-Some.kept.now c.in-Some.ensures c.promote.ensures.entries,
+)
 
 pub returns-in-Some-clause-good : goal.returns-in-Some-clause-good
 returns-in-Some-clause-good g c =
-    let old = c.args.self.now in
-    let new = c.promote.new.self in
-    let key = key_of c.args.ask.now in
     let kept = c.in-Some.kept.now in
-    let is : new ≡ lru_cache (put_entries same_key old key kept) old.cap =
-    used_in c.self.inside.entries old c.in_ok-key.key key c.self.view_is c.in_ok-key.ensures new kept c.in-Some.ensures c.promote.ensures.entries in
-    let has = found_in c.self.inside.entries old c.in_ok-key.key key c.self.view_is c.in_ok-key.ensures kept c.in-Some.ensures in
-    good_after old new key kept is c.args.ask.now.at c.args.ask.now.generation (g.G.Links.rows c.args.links.now) c.requires.good
-    (λ here now. c.requires.good key kept has refl refl)
+    let has = found_in c.self.inside.entries c.args.self.now c.in_ok-key.key (key_of c.args.ask.now) c.self.view_is c.in_ok-key.ensures kept c.in-Some.ensures in
+    good_after c.args.self.now c.promote.new.self (key_of c.args.ask.now) kept
+    (used_in c.self.inside.entries c.args.self.now c.in_ok-key.key (key_of c.args.ask.now) c.self.view_is c.in_ok-key.ensures c.promote.new.self c.in-Some.kept.now c.in-Some.ensures c.promote.ensures.entries)
+    c.args.ask.now.at c.args.ask.now.generation (g.G.Links.rows c.args.links.now) c.requires.good (λ here now. c.requires.good (key_of c.args.ask.now) kept has refl refl)
 
 pub returns-in-Some-clause-elsewhere : goal.returns-in-Some-clause-elsewhere
 returns-in-Some-clause-elsewhere g c =
-    let old = c.args.self.now in
-    let new = c.promote.new.self in
-    let key = key_of c.args.ask.now in
-    let kept = c.in-Some.kept.now in
-    let is : new ≡ lru_cache (put_entries same_key old key kept) old.cap =
-    used_in c.self.inside.entries old c.in_ok-key.key key c.self.view_is c.in_ok-key.ensures new kept c.in-Some.ensures c.promote.ensures.entries in
-    others_after old new key kept is
+    others_after c.args.self.now c.promote.new.self (key_of c.args.ask.now) c.in-Some.kept.now
+    (used_in c.self.inside.entries c.args.self.now c.in_ok-key.key (key_of c.args.ask.now) c.self.view_is c.in_ok-key.ensures c.promote.new.self c.in-Some.kept.now c.in-Some.ensures c.promote.ensures.entries)
 
 pub returns-in_err-kept-clause-hit : goal.returns-in_err-kept-clause-hit
 returns-in_err-kept-clause-hit g c = λ has.
@@ -71,31 +52,16 @@ returns-clause-hit g c = λ has.
 
 pub returns-clause-has : goal.returns-clause-has
 returns-clause-has g c =
-    let old = c.args.self.now in
-    let new = c.put.new.self in
-    let key = key_of c.args.ask.now in
-    let kept = c.in_ok-kept.kept in
-    let is : new ≡ lru_cache (put_entries same_key old key kept) old.cap =
-    put_in c.self.inside.entries old c.in_ok-key.key key c.self.view_is c.in_ok-key.ensures new kept c.in_ok-put.ensures.entries in
-    has_after old new key kept is
+    has_after c.args.self.now c.put.new.self (key_of c.args.ask.now) c.in_ok-kept.kept
+    (put_in c.self.inside.entries c.args.self.now c.in_ok-key.key (key_of c.args.ask.now) c.self.view_is c.in_ok-key.ensures c.put.new.self c.in_ok-kept.kept c.in_ok-put.ensures.entries)
 
 pub returns-clause-good : goal.returns-clause-good
 returns-clause-good g c =
-    let old = c.args.self.now in
-    let new = c.put.new.self in
-    let key = key_of c.args.ask.now in
-    let kept = c.in_ok-kept.kept in
-    let is : new ≡ lru_cache (put_entries same_key old key kept) old.cap =
-    put_in c.self.inside.entries old c.in_ok-key.key key c.self.view_is c.in_ok-key.ensures new kept c.in_ok-put.ensures.entries in
-    good_after old new key kept is c.args.ask.now.at c.args.ask.now.generation (g.G.Links.rows c.args.links.now) c.requires.good
-    (λ here now. c.in_ok-kept.ensures.kept)
+    good_after c.args.self.now c.put.new.self (key_of c.args.ask.now) c.in_ok-kept.kept
+    (put_in c.self.inside.entries c.args.self.now c.in_ok-key.key (key_of c.args.ask.now) c.self.view_is c.in_ok-key.ensures c.put.new.self c.in_ok-kept.kept c.in_ok-put.ensures.entries)
+    c.args.ask.now.at c.args.ask.now.generation (g.G.Links.rows c.args.links.now) c.requires.good (λ here now. c.in_ok-kept.ensures.kept)
 
 pub returns-clause-elsewhere : goal.returns-clause-elsewhere
 returns-clause-elsewhere g c =
-    let old = c.args.self.now in
-    let new = c.put.new.self in
-    let key = key_of c.args.ask.now in
-    let kept = c.in_ok-kept.kept in
-    let is : new ≡ lru_cache (put_entries same_key old key kept) old.cap =
-    put_in c.self.inside.entries old c.in_ok-key.key key c.self.view_is c.in_ok-key.ensures new kept c.in_ok-put.ensures.entries in
-    others_after old new key kept is
+    others_after c.args.self.now c.put.new.self (key_of c.args.ask.now) c.in_ok-kept.kept
+    (put_in c.self.inside.entries c.args.self.now c.in_ok-key.key (key_of c.args.ask.now) c.self.view_is c.in_ok-key.ensures c.put.new.self c.in_ok-kept.kept c.in_ok-put.ensures.entries)
