@@ -243,9 +243,6 @@ short_back : (es ds : Transcript) → IsShort (es ++ ds) → IsShort ds
 short_back [] ds short = short
 short_back (e ∷ es) ds short = short_back es ds (short_tail e (es ++ ds) short)
 
-short_pop : (a b : As) (ds : Transcript) → IsShort ds → IsShort (Pops a b ∷ ds)
-short_pop a b ds short = λ d q. let le = short d q in omega (arith, le)
-
 own_none : (o : Own) → IsAsk (own_message o) → ⊥
 own_none (own.Open offer) = λ x. x
 own_none own.Keepalive = λ x. x
