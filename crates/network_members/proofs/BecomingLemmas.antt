@@ -1,27 +1,17 @@
 -- One element that becomes another, by its place and by its domain.
-use Rattle.std.proofs.Common.{◌≡◌, ◌<◌, ℕ, true, is_some, Option, Some, None, Result, Ok, Err, List, length, map, get_or, set, refl, sym, ◌∙◌, ap, ap₂, subst}
-use Rattle.std.specs.Prelude.{IfErr, IfOk, IfSome}
+use Rattle.std.proofs.Common.{◌≡◌, ◌<◌, ℕ, true, is_some, Option, Some, None, List, length, map, get_or, set, refl, sym, ◌∙◌, ap, ap₂, subst}
 use Rattle.std.proofs.lemmas.Bool.{false≢true}
 use Rattle.std.proofs.lemmas.Grind.{get_or-set_at}
-use Rattle.std.proofs.lemmas.List.{get_or_read}
 use Rattle.pce_common.specs.plant_model.Types.{As, NetworkParts}
 use Rattle.pce_common.specs.plant_model.Names.{set_as}
 use Rattle.pce_common.specs.plant_model.Element.{Element}
 use Rattle.pce_element.specs.Seen.{Seen, SameButRoom, with_losing}
-use Rattle.network_members.specs.Elements.{own_of, at_domain, no_one, elements_in, current_or, current_in, with_seen, IsFirstAt, IsNowhere}
-use Rattle.network_members.specs.Becoming.{Course, Becomes, BecomesAt, HasElement}
+use Rattle.network_members.specs.Elements.{own_of, at_domain, elements_in, current_or, current_in, with_seen, IsFirstAt, IsNowhere}
+use Rattle.network_members.specs.Becoming.{Course, Becomes, HasElement}
 use Rattle.network_members.proofs.DomainLemmas.{found_own, first_own, first_within, at_first, at_nowhere, set_first, owns_set, elements_with, currents_with, set_again}
 
 pub some_one : {A : Type 0} → (a b : A) → Some a ≡ Some b → a ≡ b
 some_one a b is = cc
-
-pub ok_more : {A E : Type 0} (P Q : A → Type 0) (r : Result A E) → ((x : A) → P x → Q x) → IfOk r P → IfOk r Q
-ok_more P Q (Ok x) more p = more x p
-ok_more P Q (Err e) more p = tt
-
-pub err_more : {A E : Type 0} (P Q : E → Type 0) (r : Result A E) → ((x : E) → P x → Q x) → IfErr r P → IfErr r Q
-err_more P Q (Ok x) more p = tt
-err_more P Q (Err e) more p = more e p
 
 module _ {P : Type 0} {S : Type 0} where
   pub none_there : (d : As) (es : List (Seen P S)) → HasElement d es → IsNowhere d (map own_of es) → ⊥
@@ -36,39 +26,6 @@ module _ {P : Type 0} {S : Type 0} where
       go : (o : Option (Seen P S)) → at_domain d es ≡ o → is_some o ≡ true → (e : Seen P S) × (at_domain d es ≡ Some e)
       go None is has = absurd (false≢true has)
       go (Some e) is has = (e, is)
-
-module _ {P : Type 0} {S : Type 0} (initial : As → P) where
-  -- the element that is at a place is written there
-  pub becomes_here : (i : ℕ) (f : Course P S) (old : List (Seen P S)) (e next : Seen P S) → i < length old → e ≡ get_or old i e → SameButRoom (with_losing (f e.losing) e) next → BecomesAt initial i f old (set old i next)
-  becomes_here i f old e next within is same = record {
-    next = next;
-    same = subst (λ (x : Seen P S). SameButRoom (with_losing (f x.losing) x) next) (get_or_read old i e within is (no_one initial)) same;
-    is = refl;
-  }
-
-  pub becomes : (d : As) (i : ℕ) (f : Course P S) (old new : List (Seen P S)) → IsFirstAt d i (map own_of old) → BecomesAt initial i f old new → Becomes d f old new
-  becomes d i f old new first h = record {
-    one = get_or old i (no_one initial);
-    found = at_first d i old (no_one initial) first;
-    next = h.next;
-    same = h.same;
-    is = h.is ∙ set_first d i old h.next (ap own_of h.same ∙ first_own d i old (no_one initial) first) first;
-  }
-
-  pub owns_become : (i : ℕ) (f : Course P S) (old new : List (Seen P S)) → BecomesAt initial i f old new → map own_of new ≡ map own_of old
-  owns_become i f old new h = ap (map own_of) h.is ∙ owns_set i old h.next (no_one initial) (ap own_of h.same)
-
-  -- the element that stands at the place afterwards
-  pub at_then : (d : As) (i : ℕ) (f : Course P S) (old new : List (Seen P S)) → IsFirstAt d i (map own_of old) → BecomesAt initial i f old new → at_domain d new ≡ Some (get_or new i (no_one initial))
-  at_then d i f old new first h = at_first d i new (no_one initial) (subst (IsFirstAt d i) (sym (owns_become i f old new h)) first)
-
-  -- ---- what stands at the place of a domain
-
-  pub there_of : (F : Seen P S → Type 0) (d : As) (i : ℕ) (es : List (Seen P S)) → IsFirstAt d i (map own_of es) → F (get_or es i (no_one initial)) → IfSome (at_domain d es) F
-  there_of F d i es first is = subst (λ (o : Option (Seen P S)). IfSome o F) (sym (at_first d i es (no_one initial) first)) is
-
-  pub of_there : (F : Seen P S → Type 0) (d : As) (i : ℕ) (es : List (Seen P S)) → IsFirstAt d i (map own_of es) → IfSome (at_domain d es) F → F (get_or es i (no_one initial))
-  of_there F d i es first is = subst (λ (o : Option (Seen P S)). IfSome o F) (at_first d i es (no_one initial) first) is
 
 -- ---- the element of a domain is written where it stands
 
@@ -95,10 +52,10 @@ module _ {P : Type 0} {S : Type 0} (d : As) (i : ℕ) (items old : List (Seen P 
       is = set_first d i items next (ap own_of same ∙ ap own_of is ∙ first_own d i items e placed) placed ∙ ap (with_seen next) is_old;
     }
 
-    pub written_there : at_domain d (set items i next) ≡ Some next
-    written_there =
+    pub written_there : (x : Seen P S) → x ≡ next → at_domain d (set items i next) ≡ Some x
+    written_there x is_next =
         at_first d i (set items i next) next (subst (IsFirstAt d i) (sym owns_written) placed)
-        ∙ ap (λ (x : Seen P S). Some x) (get_or-set_at items i i next next refl placed_within)
+        ∙ ap (λ (y : Seen P S). Some y) (get_or-set_at items i i next next refl placed_within ∙ sym is_next)
 
 -- ---- what the model has of it
 

@@ -1,13 +1,12 @@
 -- One element that becomes another: its settings and what it would pin stay, whatever memory there is.
-use Rattle.std.specs.Prelude.{◌≡◌, ◌≤◌, ◌+◌, ℕ, zero, suc, true, is_some, List, [], ◌∷◌, filter, length, Some, slice_set}
-use Rattle.std.specs.List.{slice_index_or}
+use Rattle.std.specs.Prelude.{◌≡◌, ◌≤◌, ◌+◌, ℕ, zero, suc, true, is_some, List, [], ◌∷◌, filter, length, Some}
 use Rattle.pce_common.specs.plant_model.Types.{As, Peer, Class, Hop, Message}
 use Rattle.request_table.specs.Pending.{same_peer}
 use Rattle.pce_common.specs.plant_model.Element.{Losing, Taken, ticked}
 use Rattle.pce_common.specs.plant_model.RealWire.{wire}
 use Rattle.pce_common.specs.plant_model.Taking.{take}
 use Rattle.pce_element.specs.Seen.{Seen, SameButRoom, with_losing}
-use Rattle.network_members.specs.Elements.{at_domain, with_seen, no_one}
+use Rattle.network_members.specs.Elements.{at_domain, with_seen}
 
 -- what becomes of an element and its lost requests
 abbrev pub Course : Type 0 → Type 0 → Type 0
@@ -16,12 +15,6 @@ Course P S = Losing P S → Losing P S
 module _ {P : Type 0} {S : Type 0} where
   abbrev pub unchanged : Course P S
   unchanged l = l
-
-  -- the element at a place
-  pub record BecomesAt (first : As → P) (i : ℕ) (f : Course P S) (old new : List (Seen P S)) : Type 0 where
-    pub next : Seen P S
-    pub same : SameButRoom (with_losing (f (slice_index_or old i (no_one first)).losing) (slice_index_or old i (no_one first))) next
-    pub is : new ≡ slice_set old i next
 
   -- the element of a domain
   pub record Becomes (d : As) (f : Course P S) (old new : List (Seen P S)) : Type 0 where

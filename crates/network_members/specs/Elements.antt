@@ -1,18 +1,17 @@
 -- Elements by their domains.
 use Rattle.std.specs.Prelude.{◌≡◌, ◌↔◌, ◌⊎◌, ℕ, zero, suc, true, false, cond, List, [], ◌∷◌, Option, Some, None, Result, Ok, Err, IfOk, OnOk, OnErr, IsTrue}
 use Rattle.pce_common.specs.plant_model.Types.{As, NetworkParts}
-use Rattle.dom_base.specs.declared.addr.Addr.TheVariants.{V4}
 use Rattle.te_links.specs.Rows.{Rows}
 use Rattle.te_generations.specs.declared.generations.LoadError.{LoadError}
 use Rattle.te_generations.specs.declared.generations.LoadError.TheVariants as load_error
-use Rattle.plant_text.specs.Names.{same_as, parent_as}
+use Rattle.plant_text.specs.Names.{same_as}
 use Rattle.plant_text.specs.Settings.{life}
 use Rattle.pce_common.specs.plant_model.declared.outcome.Refused.{Refused}
 use Rattle.pce_common.specs.plant_model.declared.outcome.Refused.TheVariants.{NoSuchPeer, GenerationsFull, NoMemory}
 use Rattle.pce_common.specs.plant_model.Settings.{ways}
 use Rattle.pce_common.specs.plant_model.Element.{Element}
 use Rattle.pce_common.specs.plant_model.Plant.{Pin, Segment, is_full}
-use Rattle.pce_element.specs.Seen.{Seen, SameButRoom, new_element, with_current}
+use Rattle.pce_element.specs.Seen.{Seen, SameButRoom, with_current}
 
 -- the first element of the domain stands at this place
 abbrev pub IsFirstAt : As → ℕ → List As → Type 0
@@ -63,14 +62,6 @@ module _ {P : Type 0} {S : Type 0} where
   current_in first es = λ d. current_or first d (at_domain d es)
 
   -- ---- one element changes
-
-  abbrev pub no_one : (As → P) → Seen P S
-  no_one first = record {
-    place = record { own = parent_as; id = V4 0; parent = false; deny = []; routes = [] };
-    current = first parent_as;
-    losing = record { element = new_element 600 [] []; lost = [] };
-    room = record { requests = 0; keys = 0 };
-  }
 
   -- an element becomes this one, whatever memory there is
   abbrev pub Turns : Seen P S → List (Seen P S) → List (Seen P S) → Type 0

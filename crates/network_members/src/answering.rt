@@ -1,6 +1,5 @@
 //! A solved job is answered.
-ghost use Rattle.std.specs.Prelude.{◌≡◌, ◌<◌, ◌≤◌, length, Some, IfErr, IfOk, IfSome, false, true};
-ghost use Rattle.std.specs.List.{slice_index_or};
+ghost use Rattle.std.specs.Prelude.{◌≡◌, ◌≤◌, length, Some, IfErr, IfOk, IfSome, false, true};
 ghost use Rattle.plant_text.specs.Names.{same_as, parent_as};
 ghost use Rattle.plant_text.specs.Settings.{is_element};
 ghost use Rattle.pce_common.specs.plant_model.Events.{has_jobs};
@@ -8,8 +7,8 @@ ghost use Rattle.pce_common.specs.plant_model.Plant.{first_pin};
 ghost use Rattle.pce_common.specs.Membership.{KeysBefore};
 ghost use Rattle.pce_element.specs.Committing.{IsOwnJob, committed};
 ghost use Rattle.network_members.specs.Answering.{Commits, IsBack, IsOwnDone, border_job};
-ghost use Rattle.network_members.specs.Becoming.{Becomes, BecomesAt, HasElement, unchanged};
-ghost use Rattle.network_members.specs.Elements.{at_domain, no_one};
+ghost use Rattle.network_members.specs.Becoming.{Becomes, HasElement, unchanged};
+ghost use Rattle.network_members.specs.Elements.{at_domain};
 ghost use Rattle.network_members.specs.Tiers.{members_of};
 
 use crate::elements::Elements;
@@ -18,27 +17,8 @@ use crate::plan::MemberPlan;
 use border_costs::Solved;
 use dom_base::{As, Tick};
 use pce_common::model::Refused;
-use pce_element::{Element, Plan, Refusal, Topologies};
+use pce_element::{Plan, Refusal, Topologies};
 use pce_parent::{BorderSolved, Done};
-
-fn commit_at(
-    items: &mut Vec<Element<Topologies>>,
-    i: usize,
-    solved: Solved,
-    now: Tick,
-) -> Result<Plan<Topologies>, Refusal<Solved>>
-    requires within { i < length items.old.items }
-    requires clock { (slice_index_or items.old.items i (no_one first_pin)).losing.element.keys.clock ≤ now.0 }
-    requires own { IsOwnJob (slice_index_or items.old.items i (no_one first_pin)) solved }
-    ensures same { BecomesAt first_pin i unchanged items.old.items items.new.items }
-    ensures from { IfOk result (λ plan. plan.from ≡ slice_index_or items.new.items i (no_one first_pin)) }
-    ensures taken { IfOk result (λ plan. committed (slice_index_or items.old.items i (no_one first_pin)) solved now.0 ≡ Some plan.taken) }
-    ensures one { IfOk result (λ plan. length plan.taken.outputs ≡ 1) }
-    ensures solved { IfOk result (λ plan. plan.solved ≡ Some solved) }
-    ensures back { IfErr result (IsBack (slice_index_or items.old.items i (no_one first_pin)) solved) }
-{
-    items[i].commit(solved, now)
-}
 
 impl Elements<Topologies> {
     /// Plans the answer to a job of the element of a domain that was solved.
@@ -59,7 +39,7 @@ impl Elements<Topologies> {
         ensures back { IfErr result (λ why. IfSome (at_domain at self.old) (λ e. IsBack e solved why)) }
     {
         let i = self.place(at);
-        commit_at(&mut self.items, i, solved, now)
+        self.items[i].commit(solved, now)
     }
 }
 

@@ -1,6 +1,5 @@
 //! Members without topologies answer requests by rows that come from outside.
-ghost use Rattle.std.specs.Prelude.{◌≡◌, ◌<◌, ◌≤◌, length, Some, IfErr, IfOk, IfSome, MatchOption, false, true};
-ghost use Rattle.std.specs.List.{slice_index_or};
+ghost use Rattle.std.specs.Prelude.{◌≡◌, ◌≤◌, Some, IfErr, IfOk, IfSome, MatchOption, false, true};
 ghost use Rattle.plant_text.specs.Names.{same_as, parent_as};
 ghost use Rattle.plant_text.specs.Settings.{is_element};
 ghost use Rattle.pce_common.specs.plant_model.Blind.{AreGivenRows};
@@ -9,9 +8,9 @@ ghost use Rattle.pce_common.specs.plant_model.Events.{has_jobs};
 ghost use Rattle.pce_common.specs.Membership.{KeysBefore};
 ghost use Rattle.pce_element.specs.Blind.{HasNoJob, IsSolvedBy};
 ghost use Rattle.pce_parent.specs.Seen.{job_at};
-ghost use Rattle.network_members.specs.Becoming.{Becomes, BecomesAt, HasElement, unchanged};
+ghost use Rattle.network_members.specs.Becoming.{Becomes, HasElement, unchanged};
 ghost use Rattle.network_members.specs.Blind.{IsUnsolved, Solves, nothing_first, told_below};
-ghost use Rattle.network_members.specs.Elements.{at_domain, no_one};
+ghost use Rattle.network_members.specs.Elements.{at_domain};
 ghost use Rattle.network_members.specs.Tiers.{members_of};
 
 use crate::elements::Elements;
@@ -19,26 +18,9 @@ use crate::hierarchy::{Hierarchy, is_parent};
 use crate::plan::MemberPlan;
 use dom_base::{As, BorderRow, NoMemory, Tick};
 use pce_common::model::Refused;
-use pce_element::{Blind, Element, Plan};
+use pce_element::{Blind, Plan};
 use pce_parent::{BorderSolved, Parent, solve_border};
 use std::alloc::Global;
-
-fn solve_at(
-    items: &mut Vec<Element<Blind>>,
-    i: usize,
-    number: u64,
-    rows: &[BorderRow],
-    now: Tick,
-) -> Result<Option<Plan<Blind>>, NoMemory>
-    requires within { i < length items.old.items }
-    requires clock { (slice_index_or items.old.items i (no_one nothing_first)).losing.element.keys.clock ≤ now.0 }
-    requires rows { AreGivenRows rows.now }
-    ensures same { BecomesAt nothing_first i unchanged items.old.items items.new.items }
-    ensures from { IfOk result (λ plan. IfSome plan (λ plan. plan.from ≡ slice_index_or items.new.items i (no_one nothing_first))) }
-    ensures taken { IfOk result (λ plan. MatchOption plan (HasNoJob (slice_index_or items.old.items i (no_one nothing_first)) number) (λ plan. IsSolvedBy (slice_index_or items.old.items i (no_one nothing_first)) number rows.now now.0 plan.taken)) }
-{
-    items[i].solve(number, rows, now)
-}
 
 // What solves the job of a request of the parent.
 fn solve_job(alloc: Global, parent: &Parent, number: u64) -> Result<BorderSolved, Refused>
@@ -89,7 +71,7 @@ impl Elements<Blind> {
         ensures taken { IfOk result (λ plan. IfSome (at_domain at self.old) (λ e. MatchOption plan (HasNoJob e number) (λ plan. IsSolvedBy e number rows.now now.0 plan.taken))) }
     {
         let i = self.place(at);
-        solve_at(&mut self.items, i, number, rows, now)
+        self.items[i].solve(number, rows, now)
     }
 }
 
