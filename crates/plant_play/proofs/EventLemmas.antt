@@ -4,6 +4,7 @@ use Rattle.std.specs.Arc.{arc_value}
 use Rattle.plant_network.specs.plant_model.Types.{As, BorderRow, Ask, Job, Sent, NetworkParts}
 use Rattle.path_certificate.specs.declared.certificate.Certificate.{Certificate}
 use Rattle.te_links.specs.Rows.{Rows}
+use Rattle.border_costs.specs.Solutions.{Solution}
 use Rattle.plant_text.specs.Names.{same_as, parent_as}
 use Rattle.plant_network.specs.plant_model.declared.event.Event.{Event}
 use Rattle.plant_network.specs.plant_model.declared.event.Event.TheVariants as event
@@ -13,7 +14,10 @@ use Rattle.plant_network.specs.plant_model.Events.{Answered, is_ready}
 use Rattle.plant_network.specs.plant_model.State.{said}
 use Rattle.plant_network.specs.plant_model.Plant.{Plant, PlantDeed, Happened, Happens, SolveHappens}
 use Rattle.plant_network.specs.plant_model.RealWire.{wire}
-use Rattle.plant_network.specs.Jobs.{IsAsked}
+use Rattle.plant_network.specs.pce_parent.declared.work.Done.TheVariants as done
+use Rattle.plant_network.specs.pce_parent.declared.work.Work.TheVariants as work
+use Rattle.plant_network.specs.Jobs.{IsAsked, IsOwn}
+use Rattle.plant_network.proofs.JobLemmas.{solved_here}
 use Rattle.plant_network.specs.Whole.{Whole}
 use Rattle.transcript.specs.Lines.{answer_line, rows_text, sents_text}
 use Rattle.plant_play.specs.declared.showing.Modes.{Modes}
@@ -22,6 +26,38 @@ use Rattle.plant_play.specs.Making.{Brings, CertificateOf, Does, IsJobAt, IsJobO
 use Rattle.plant_play.specs.Playing.{PlaysOne}
 use Rattle.plant_play.specs.Turns.{CertificateAt, HasTable, ShowsTurn, TableAt, Turn, brought_text, certificate_text, event_line, is_domain_solve, messages_of, tells_closed, unsaid}
 use Rattle.plant_play.proofs.LogLemmas.{behind_twice}
+
+-- ---- the job that is shown
+
+none_there : (job : Job) → ◌≡◌ {A = Option Job} (Some job) None → ⊥
+none_there job e = cc
+
+-- the event solves what was solved, which is the own job of the network
+pub record IsSolveOf (w : Whole) (e : Event) (x : Solution) : Type 0 where
+  pub own : IsOwn w (done.Domain x)
+  pub is : event.Solve x.ask.at x.ask.number ≡ e
+
+module _ (w : Whole) (job : Job) (x : Solution) (asked : x.ask ≡ job.ask) (over : x.topology ≡ arc_value job.topology) where
+  solve_at : (e : Event) → IsJobOf w e (Some job) → IsSolveOf w e x
+  solve_at (event.Solve d k) h =
+      let s = solved_here w d k (work.Domain job) (done.Domain x) (h.below, h.is_asked) (asked, over) in
+      record { own = s.own; is = ap (λ (a : As). event.Solve a x.ask.number) s.at ∙ ap (event.Solve d) s.number }
+  solve_at (event.Load d g) h = absurd (none_there job h)
+  solve_at (event.Open i holder) h = absurd (none_there job h)
+  solve_at (event.Shut i) h = absurd (none_there job h)
+  solve_at (event.Feed i bytes) h = absurd (none_there job h)
+  solve_at (event.Take i) h = absurd (none_there job h)
+  solve_at (event.Carry a b) h = absurd (none_there job h)
+  solve_at (event.Break a b) h = absurd (none_there job h)
+  solve_at (event.Tick t) h = absurd (none_there job h)
+  solve_at (event.Drain i holder) h = absurd (none_there job h)
+
+  pub solve_of : (m : Modes) (e : Event) → IsToShow m w e (Some job) → IsSolveOf w e x
+  solve_of m e to_show = go (shows_any m) to_show
+    where
+      go : (b : Bool) → cond b (IsJobOf w e (Some job)) (◌≡◌ {A = Option Job} (Some job) None) → IsSolveOf w e x
+      go true h = solve_at e h
+      go false h = absurd (none_there job h)
 
 -- ---- what an accepted solve solved
 

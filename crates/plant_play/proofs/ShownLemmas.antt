@@ -1,5 +1,5 @@
 -- What is told of an answer, put together.
-use Rattle.std.proofs.Common.{◌≡◌, ℕ, Bool, true, false, cond, ◌&&◌, List, [], ◌++◌, Option, Some, None, Result, Ok, Err, is_err, sym, ◌∙◌, subst, ap, refl, append-nil, IfOk, OnOk}
+use Rattle.std.proofs.Common.{◌≡◌, ℕ, Bool, true, false, cond, ◌&&◌, List, [], ◌++◌, Option, Some, None, Result, Ok, Err, is_err, sym, ◌∙◌, subst, ap, refl, append-nil, IfOk, IfSome, OnOk}
 use Rattle.std.specs.Arc.{arc_value}
 use Rattle.plant_network.specs.plant_model.Types.{BorderRow, Job}
 use Rattle.path_certificate.specs.declared.certificate.Certificate.{Certificate}
@@ -9,12 +9,12 @@ use Rattle.plant_network.specs.plant_model.Blind.{is_accepted}
 use Rattle.plant_network.specs.plant_model.Events.{Answered}
 use Rattle.plant_network.specs.plant_model.declared.event.Event.{Event}
 use Rattle.plant_network.specs.Whole.{Whole}
-use Rattle.transcript.specs.Lines.{certified_text, rows_text, sents_text}
+use Rattle.transcript.specs.Lines.{rows_text, sents_text}
 use Rattle.plant_play.specs.declared.showing.Modes.{Modes}
-use Rattle.plant_play.specs.Logs.{Told, behind}
-use Rattle.plant_play.specs.Making.{Brings, CertificateOf, Labels, LabelsIf, Makes, Refuses, Shown, TableOf, Tables, TablesIf}
+use Rattle.plant_play.specs.Logs.{Told, behind, untold}
+use Rattle.plant_play.specs.Making.{Brings, CertificateOf, LabelsIf, Makes, Refuses, Shown, TableOf, Tables, TablesIf}
 use Rattle.plant_play.specs.Turns.{certificate_text, tells_closed}
-use Rattle.plant_play.proofs.LogLemmas.{behind_nothing, behind_twice}
+use Rattle.plant_play.proofs.LogLemmas.{behind_nothing, behind_twice, behind_waited}
 
 pub on_ok : {T E A B : Type 0} (r : Result T E) → (A → B) → OnOk r A → OnOk r B
 on_ok (Ok x) f h = f h
@@ -24,12 +24,19 @@ pub if_ok : {T E : Type 0} (P Q : T → Type 0) (r : Result T E) → ((x : T) �
 if_ok P Q (Ok x) f h = f x h
 if_ok P Q (Err x) f h = tt
 
-pub labels_told : (line : ℕ) (job : Job) (rows : Answer) (c : Certificate) (b0 b1 : Told) → AreRows (arc_value job.topology) job.ask rows → c ≡ rows.certificate → b1 ≡ behind b0 (certified_text line c) → Labels line job b0 b1
-labels_told line job rows c b0 b1 are is told = record {
-  certificate = rows.certificate;
-  labels = record { seeds = are.seeds; are_seeds = are.are_seeds; labels = are.certificate };
-  tells = told ∙ ap (λ (x : Certificate). behind b0 (certified_text line x)) is;
+pub always : {T E A : Type 0} (r : Result T E) → A → OnOk r A
+always (Ok x) h = h
+always (Err x) h = tt
+
+-- the labels of the very job that was solved
+pub labels_told : (line : ℕ) (shown : Bool) (job : Job) (rows : Answer) (b0 b1 : Told) → AreRows (arc_value job.topology) job.ask rows →
+    b1 ≡ behind b0 (certificate_text line (cond shown (Some rows.certificate) None)) → LabelsIf line shown job b0 b1
+labels_told line true job rows b0 b1 are told = record {
+  certificate = Some rows.certificate;
+  is_certificate = record { seeds = are.seeds; are_seeds = are.are_seeds; labels = are.certificate };
+  tells = told;
 }
+labels_told line false job rows b0 b1 are told = record { certificate = None; is_certificate = refl; tells = told }
 
 pub table_shown : (line : ℕ) (job : Job) (b0 b1 : Told) → Tables line job b0 b1 → TablesIf line true job b0 b1
 table_shown line job b0 b1 h = record { rows = h.rows; are_rows = h.table; tells = h.tells }
@@ -37,20 +44,23 @@ table_shown line job b0 b1 h = record { rows = h.rows; are_rows = h.table; tells
 pub no_table : (line : ℕ) (job : Job) (b : Told) → TablesIf line false job b b
 no_table line job b = record { rows = []; are_rows = refl; tells = behind_nothing b }
 
-pub labels_shown : (line : ℕ) (job : Job) (b0 b1 : Told) → Labels line job b0 b1 → LabelsIf line true job b0 b1
-labels_shown line job b0 b1 h = record { certificate = Some h.certificate; is_certificate = h.labels; tells = h.tells }
-
-pub no_labels : (line : ℕ) (job : Job) (b : Told) → LabelsIf line false job b b
-no_labels line job b = record { certificate = None; is_certificate = refl; tells = behind_nothing b }
-
-pub both_shown : (line : ℕ) (m : Modes) (closed both : Bool) (job : Job) (b0 b1 b2 : Told) → both ≡ (m.disclose && closed) → TablesIf line both job b0 b1 → LabelsIf line m.certify job b1 b2 → Shown line m closed job b0 b2
-both_shown line m closed both job b0 b1 b2 e t l = record {
+pub both_shown : (line : ℕ) (m : Modes) (closed both : Bool) (job : Job) (labels b0 b1 b2 : Told) → both ≡ (m.disclose && closed) → TablesIf line both job b0 b1 → LabelsIf line m.certify job (untold b0.is_kept) labels →
+    b2 ≡ behind b1 labels.text → Shown line m closed job b0 b2
+both_shown line m closed both job labels b0 b1 b2 e t l told = record {
   rows = t.rows;
   certificate = l.certificate;
   are_rows = subst (λ (b : Bool). cond b (TableOf (Some job) t.rows) (t.rows ≡ [])) e t.are_rows;
   is_certificate = l.is_certificate;
-  tells = l.tells ∙ ap (λ (b : Told). behind b (certificate_text line l.certificate)) t.tells ∙ behind_twice b0 (rows_text line t.rows) (certificate_text line l.certificate);
+  tells =
+      told ∙ ap (λ (b : Told). behind b labels.text) t.tells ∙ behind_waited (behind b0 (rows_text line t.rows)) labels (certificate_text line l.certificate) l.tells
+      ∙ behind_twice b0 (rows_text line t.rows) (certificate_text line l.certificate);
 }
+
+-- labels that wait until more is told
+pub still_wait : (line : ℕ) (shown : Bool) (job : Option Job) (before labels b0 b1 : Told) (text : List ℕ) → before ≡ untold b0.is_kept → b1 ≡ behind b0 text → IfSome job (λ j. LabelsIf line shown j before labels) →
+    IfSome job (λ j. LabelsIf line shown j (untold b1.is_kept) labels)
+still_wait line shown job before labels b0 b1 text is told wait =
+    subst (λ (b : Told). IfSome job (λ j. LabelsIf line shown j b labels)) (is ∙ ap untold (sym (ap (λ (b : Told). b.is_kept) told))) wait
 
 -- ---- what an answer brought about
 

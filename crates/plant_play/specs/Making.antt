@@ -20,7 +20,7 @@ use Rattle.plant_network.specs.plant_model.Plant.{Plant, PlantDeed, Entry, Happe
 use Rattle.plant_network.specs.plant_model.RealWire.{wire}
 use Rattle.plant_network.specs.Whole.{IsOwnLoad, Whole}
 use Rattle.plant_network.specs.Jobs.{IsAsked}
-use Rattle.transcript.specs.Lines.{certified_text, rows_text, sents_text}
+use Rattle.transcript.specs.Lines.{rows_text, sents_text}
 use Rattle.plant_play.specs.declared.events.Due.{Due as DueEvent}
 use Rattle.plant_play.specs.declared.events.Due.TheVariants as due
 use Rattle.plant_play.specs.declared.showing.Modes.{Modes}
@@ -112,18 +112,13 @@ pub record Tables (line : ℕ) (job : Job) (old new : Told) : Type 0 where
   pub table : TableOf (Some job) rows
   pub tells : new ≡ behind old (rows_text line rows)
 
--- the labels of a job are told
-pub record Labels (line : ℕ) (job : Job) (old new : Told) : Type 0 where
-  pub certificate : Certificate
-  pub labels : LabelsOf job certificate
-  pub tells : new ≡ behind old (certified_text line certificate)
-
--- the same where they are shown, and nothing where they are not
+-- the same where it is shown, and nothing where it is not
 pub record TablesIf (line : ℕ) (shown : Bool) (job : Job) (old new : Told) : Type 0 where
   pub rows : List BorderRow
   pub are_rows : cond shown (TableOf (Some job) rows) (rows ≡ [])
   pub tells : new ≡ behind old (rows_text line rows)
 
+-- the labels of a job are told where they are shown
 pub record LabelsIf (line : ℕ) (shown : Bool) (job : Job) (old new : Told) : Type 0 where
   pub certificate : Option Certificate
   pub is_certificate : cond shown (CertificateOf (Some job) certificate) (certificate ≡ None)

@@ -1,21 +1,24 @@
 //! One event of a line, done and told.
-ghost use Rattle.std.specs.Prelude.{◌≡◌, IfErr, Err, IfOk, MatchBool, OnOk};
+ghost use Rattle.std.specs.Prelude.{◌≡◌, IfErr, Err, IfOk, IfSome, MatchBool, OnOk, Some};
 ghost use Rattle.network_files.specs.Reading.{IsWant};
 ghost use Rattle.plant_text.specs.Settings.{peer_row};
+ghost use Rattle.plant_network.specs.plant_model.declared.event.Event.TheVariants.{Solve};
+ghost use Rattle.plant_network.specs.Jobs.{IsOwn, solved_at, solved_number};
 ghost use Rattle.plant_network.specs.Topologies.{whole};
-ghost use Rattle.plant_network.specs.Whole.{IsOwnLoad};
+ghost use Rattle.plant_network.specs.Whole.{IsOwnLoad, Stepped};
 ghost use Rattle.transcript.specs.Lines.{name_from};
 ghost use Rattle.plant_play.specs.Logs.{behind};
-ghost use Rattle.plant_play.specs.Making.{DoesLine, Makes, MakesTurn, Refuses, event_of, lacks_memory, playing};
+ghost use Rattle.plant_play.specs.Making.{DoesLine, IsToShow, LabelsIf, Makes, MakesTurn, Refuses, event_of, lacks_memory, playing};
 ghost use Rattle.plant_play.specs.Playing.{PlaysNone, PlaysOne};
 ghost use Rattle.plant_play.specs.Turns.{event_line};
 
 use crate::PlayError;
 use crate::log::{Log, write_answer, write_carry, write_solve, write_take};
-use crate::showing::{Modes, job_to_show, write_brought};
+use crate::showing::{Modes, job_to_show, write_brought, write_labels_if};
+use border_costs::{Job, solve};
 use dom_base::{As, NoMemory};
-use plant_network::Plant;
 use plant_network::model::{Event, Outcome, Refused};
+use plant_network::{Done, Plant};
 use plant_text::PeerRow;
 use std::alloc::Global;
 
@@ -63,6 +66,73 @@ pub(crate) fn done(plant: &mut Plant, event: Event) -> Result<Answer, PlayError>
     }
 }
 
+// Answers a job that was solved, which is let go where it is refused.
+fn answered(plant: &mut Plant, solved: Done) -> Answer
+    requires { IsOwn (whole plant.old) solved }
+    ensures { Stepped (whole plant.old) (Solve (solved_at solved) (solved_number solved)) result (whole plant.new) }
+{
+    match plant.commit(solved) {
+        Ok(outcome) => Ok(outcome),
+        Err(refusal) => Err(refusal.why),
+    }
+}
+
+// The same, where want of memory is no answer.
+fn committed(plant: &mut Plant, solved: Done) -> Result<Answer, PlayError>
+    requires { IsOwn (whole plant.old) solved }
+    ensures refused { IfErr result IsWant }
+    ensures makes { IfOk result (λ answer. Makes (whole plant.old) (Solve (solved_at solved) (solved_number solved)) answer (whole plant.new)) }
+{
+    let answer = answered(plant, solved);
+    if lacks_memory(&answer) {
+        Err(PlayError::NoMemory)
+    } else {
+        Ok(answer)
+    }
+}
+
+// The event that solves a job of which something is shown: the job is solved once, and its labels are told beside.
+fn solve_shown(
+    alloc: Global,
+    plant: &mut Plant,
+    modes: Modes,
+    line: u32,
+    _event: &Event,
+    job: &Job,
+    labels: &mut Log,
+) -> Result<Answer, PlayError>
+    requires { IsToShow modes (whole plant.old) _event.now (Some job.now) }
+    ensures refused { IfErr result IsWant }
+    ensures makes { IfOk result (λ answer. Makes (whole plant.old) _event.now answer (whole plant.new)) }
+    ensures labels { OnOk result (LabelsIf line modes.certify job.now labels.old labels.new) }
+{
+    let solved = solve(alloc, job)?;
+    write_labels_if(line, modes.certify, &solved, labels)?;
+    committed(plant, Done::Domain(solved))
+}
+
+// Does an event; the labels of a job that is to be shown are told beside.
+fn make(
+    alloc: Global,
+    plant: &mut Plant,
+    modes: Modes,
+    line: u32,
+    event: Event,
+    job: &Option<Job>,
+    labels: &mut Log,
+) -> Result<Answer, PlayError>
+    requires own { IsOwnLoad event }
+    requires to_show { IsToShow modes (whole plant.old) event job.now }
+    ensures refused { IfErr result IsWant }
+    ensures makes { IfOk result (λ answer. Makes (whole plant.old) event answer (whole plant.new)) }
+    ensures labels { OnOk result (IfSome job.now (λ j. LabelsIf line modes.certify j labels.old labels.new)) }
+{
+    match job {
+        Some(job) => solve_shown(alloc, plant, modes, line, &event, job, labels),
+        None => done(plant, event),
+    }
+}
+
 /// The event of a line: its answer is told first. Gives that.
 pub(crate) fn play_event(
     alloc: Global,
@@ -77,9 +147,10 @@ pub(crate) fn play_event(
     ensures refused { IfErr result IsWant }
 {
     let job = job_to_show(plant, modes, &event)?;
-    let answer = done(plant, event)?;
+    let mut labels = into.beside(alloc);
+    let answer = make(alloc, plant, modes, line, event, &job, &mut labels)?;
     write_answer(alloc, line, &answer, into)?;
-    write_brought(alloc, line, plant, modes, &answer, &job, into)?;
+    write_brought(alloc, line, plant, modes, &answer, &job, &labels, into)?;
     Ok(answer)
 }
 
@@ -121,11 +192,12 @@ pub(crate) fn make_due(
 {
     let event = event_of(due);
     let job = job_to_show(plant, modes, &event)?;
-    let answer = done(plant, event)?;
+    let mut labels = into.beside(alloc);
+    let answer = make(alloc, plant, modes, line, event, &job, &mut labels)?;
     if answer.is_err() {
         return Ok(false);
     }
     write_due(line, plant.parts().peers.as_slice(), due, into)?;
-    write_brought(alloc, line, plant, modes, &answer, &job, into)?;
+    write_brought(alloc, line, plant, modes, &answer, &job, &labels, into)?;
     Ok(true)
 }

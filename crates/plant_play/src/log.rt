@@ -59,12 +59,33 @@ impl Log {
         }
     }
 
+    // Nothing is told yet; what will be is kept where it is here.
+    pub(crate) fn beside(&self, alloc: Global) -> Log
+        ensures { result ≡ untold self.now.is_kept }
+    {
+        Log {
+            is_kept: self.is_kept,
+            text: Vec::new(alloc),
+        }
+    }
+
     /// What was told and kept.
     pub fn text(&self) -> &[u8]
         ensures { result.now ≡ self.now.text }
     {
         &self.text
     }
+}
+
+// Tells what another log has told.
+pub(crate) fn write_log(log: &Log, into: &mut Log) -> Result<(), NoMemory>
+    ensures { OnOk result (into.new ≡ behind into.old log.now.text) }
+{
+    if !into.is_kept {
+        return Ok(());
+    }
+    into.text.extend_from_slice(&log.text)?;
+    Ok(())
 }
 
 // ---- each of these tells what the call of its name in `transcript` writes

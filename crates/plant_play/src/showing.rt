@@ -1,16 +1,17 @@
 //! What is told of an event behind its answer: its messages, and what is shown of the job that it solved.
-ghost use Rattle.std.specs.Prelude.{◌≡◌, ◌&&◌, ◌||◌, Some, IfOk, OnOk};
+ghost use Rattle.std.specs.Prelude.{◌≡◌, ◌&&◌, ◌||◌, cond, None, Some, IfOk, IfSome, OnOk};
 ghost use Rattle.path_certificate.specs.declared.certificate.Certificate.{Certificate as Certified};
 ghost use Rattle.dom_base.specs.declared.border.BorderRow.{BorderRow};
 ghost use Rattle.plant_text.specs.Settings.{class_from, peer_row};
 ghost use Rattle.plant_network.specs.plant_model.Element.{is_client};
 ghost use Rattle.plant_network.specs.Topologies.{whole};
-ghost use Rattle.transcript.specs.Lines.{certified_text, rows_text};
-ghost use Rattle.plant_play.specs.Making.{Brings, IsToShow, Labels, LabelsIf, Shown, Tables, TablesIf, closed_among, shows_any};
-ghost use Rattle.plant_play.specs.Turns.{tells_closed};
+ghost use Rattle.transcript.specs.Lines.{rows_text};
+ghost use Rattle.plant_play.specs.Logs.{behind, untold};
+ghost use Rattle.plant_play.specs.Making.{Brings, IsToShow, LabelsIf, Shown, Tables, TablesIf, closed_among, shows_any};
+ghost use Rattle.plant_play.specs.Turns.{certificate_text, tells_closed};
 
-use crate::log::{Log, write_certified, write_rows, write_said};
-use border_costs::{Job, border_table, solve};
+use crate::log::{Log, write_certified, write_log, write_rows, write_said};
+use border_costs::{Job, Solved, border_table};
 use disclosure::Class;
 use dom_base::{NoMemory, Peer};
 use plant_network::model::{Event, Outcome, Refused};
@@ -94,13 +95,6 @@ fn write_table(alloc: Global, line: u32, job: &Job, into: &mut Log) -> Result<()
     write_rows(line, rows.as_slice(), into)
 }
 
-fn write_labels(alloc: Global, line: u32, job: &Job, into: &mut Log) -> Result<(), NoMemory>
-    ensures { OnOk result (Labels line job.now into.old into.new) }
-{
-    let solved = solve(alloc, job)?;
-    write_certified(line, solved.certificate(), into)
-}
-
 // The border table, where it is shown.
 fn write_table_if(
     alloc: Global,
@@ -118,41 +112,42 @@ fn write_table_if(
     }
 }
 
-// The labels, where they are shown.
-fn write_labels_if(
-    alloc: Global,
+/// The labels of a job that was solved, where they are shown.
+pub(crate) fn write_labels_if(
     line: u32,
     shown: bool,
-    job: &Job,
+    solved: &Solved,
     into: &mut Log,
 ) -> Result<(), NoMemory>
-    ensures { OnOk result (LabelsIf line shown job.now into.old into.new) }
+    ensures { OnOk result (into.new ≡ behind into.old (certificate_text line (cond shown (Some solved.now.rows.certificate) None))) }
 {
     if shown {
-        write_labels(alloc, line, job, into)
+        write_certified(line, solved.certificate(), into)
     } else {
         Ok(())
     }
 }
 
-// What is shown of a job that was solved.
+// What is shown of a job that was solved: its border table, and the labels that were told beside.
 fn write_shown(
     alloc: Global,
     line: u32,
     modes: Modes,
     closed: bool,
     job: &Job,
+    labels: &Log,
     into: &mut Log,
 ) -> Result<(), NoMemory>
+    requires { LabelsIf line modes.certify job.now (untold into.old.is_kept) labels.now }
     ensures { OnOk result (Shown line modes closed job.now into.old into.new) }
 {
     write_table_if(alloc, line, modes.disclose && closed, job, into)?;
-    write_labels_if(alloc, line, modes.certify, job, into)?;
+    write_log(labels, into)?;
     Ok(())
 }
 
-/// What an accepted event brought about: its messages, and what is shown of the job that it solved. A refused one
-/// brings about nothing.
+/// What an accepted event brought about: its messages, and what is shown of the job that it solved, whose labels were
+/// told beside. A refused one brings about nothing.
 pub(crate) fn write_brought(
     alloc: Global,
     line: u32,
@@ -160,8 +155,10 @@ pub(crate) fn write_brought(
     modes: Modes,
     answer: &Result<Outcome, Refused>,
     job: &Option<Job>,
+    labels: &Log,
     into: &mut Log,
 ) -> Result<(), NoMemory>
+    requires { IfSome job.now (λ j. LabelsIf line modes.certify j (untold into.old.is_kept) labels.now) }
     ensures { OnOk result (Brings line modes (whole plant.now) answer.now job.now into.old into.new) }
 {
     if answer.is_err() {
@@ -176,7 +173,7 @@ pub(crate) fn write_brought(
     )?;
     match job {
         Some(job) => {
-            write_shown(alloc, line, modes, tells_closed(plant), job, into)?;
+            write_shown(alloc, line, modes, tells_closed(plant), job, labels, into)?;
             Ok(())
         }
         None => Ok(()),
