@@ -5,7 +5,7 @@ use Rattle.pce_common.specs.plant_model.Types.{Metric, Answer}
 use Rattle.pcep_messages.specs.declared.message.Answer.TheVariants.{Paths}
 use Rattle.pce_common.specs.plant_model.RealWire.{wire}
 use Rattle.pce_common.specs.plant_model.declared.output.Output.{Output}
-use Rattle.pce_common.specs.plant_model.Writing.{no_path, reply_message}
+use Rattle.pce_common.specs.plant_model.Writing.{none_between, reply_message}
 use Rattle.pce_common.specs.plant_model.Branches.{path_of}
 use Rattle.pce_common.specs.plant_model.BorderGraph.{Found}
 use Rattle.pce_common.specs.plant_model.Parent.{AskingRow, is_ready}
@@ -14,7 +14,7 @@ use Rattle.pce_parent.specs.Pendings.{row_of}
 use Rattle.pce_parent.specs.Seen.{Seen}
 
 abbrev pub answer_of : Metric → Option Found → Answer
-answer_of m None = no_path true true
+answer_of m None = none_between
 answer_of m (Some a) = Paths (path_of wire m a.cost a.hops ∷ [])
 
 -- to whom asked

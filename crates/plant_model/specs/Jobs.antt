@@ -12,7 +12,7 @@ use Rattle.plant_model.specs.Rising.{has_addr, insert_addr}
 use Rattle.plant_model.specs.Branches.{downs}
 use Rattle.plant_model.specs.Element.{Item}
 
--- where a job leads: along its sequence to the next domain, or to its end
+-- where a job leads: along its sequence to the next domain, or to its end; a sequence has its own domain at least, so [] is never asked
 abbrev pub target_along : List As → Addr → Target
 target_along [] t = Node t
 target_along (a ∷ []) t = Node t

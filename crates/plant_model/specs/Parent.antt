@@ -106,6 +106,7 @@ abbrev pub all_waits : List AskingRow → List Wait
 all_waits [] = []
 all_waits (h ∷ hs) = h.1.item.waits ++ all_waits hs
 
+-- the id that was sent last; each child has a way, so None is never asked
 abbrev pub last_to : Option Way → ℕ
 last_to None = 0
 last_to (Some w) = w.last_id
@@ -132,7 +133,7 @@ ask_all w taken (r ∷ rs) ways =
       outputs = record { to = p; message = request_message y w r.target (r.child ∷ []) } ∷ rest.outputs;
     }
 
--- the session of each child is up
+-- the session of each child is up; None is never asked here either
 abbrev pub is_up : Option Way → Bool
 is_up None = false
 is_up (Some w) = w.up
@@ -241,7 +242,7 @@ take_errors p ids (e ∷ es) = each (λ rp k. take_failure e k (waiting p rp.1 k
 abbrev pub take_report : Peer → ErrorReport → Parent → ParentTaken
 take_report p r = take_errors p r.ids r.errors
 
--- What the parent does with a message that its session passes.
+-- What the parent does with a message that its session passes; the session takes the last four itself, so they are never asked.
 abbrev pub take : Codec → Family → Peer → Message → Parent → ParentTaken
 take c f p (messages.PcReq asks) = each (take_asked c f p) asks
 take c f p (messages.PcRep replies) = each (take_reply c p) replies
@@ -306,7 +307,7 @@ is_ready i = elim i.waits [ [] ↦ true | w ∷ ws ↦ false ]
 abbrev pub ready_numbers : List AskingRow → List ℕ
 ready_numbers rows = map (λ h. h.0) (filter (λ h. is_ready h.1.item) rows)
 
--- children alone ask
+-- children alone ask, so an outside peer is never asked
 abbrev pub start_of : Peer → As
 start_of (Inner a) = a
 start_of (Outside i) = parent_as

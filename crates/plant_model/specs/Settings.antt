@@ -9,6 +9,7 @@ use Rattle.plant_model.specs.Element.{Way, ElementSettings}
 use Rattle.plant_model.specs.Parent.{Family}
 use Rattle.plant_model.specs.Routes.{routes}
 
+-- the settings of an element; a domain without one is never asked
 abbrev pub place_from : As → List Deny → List Route → Option ElementRow → ElementSettings
 place_from d deny routes None = record { own = d; id = V4 0; parent = false; deny = deny; routes = routes }
 place_from d deny routes (Some r) = record { own = d; id = r.id; parent = r.parent; deny = deny; routes = routes }

@@ -187,7 +187,7 @@ abbrev pub take_report : {P : Type 0} {S : Type 0} → Peer → ErrorReport → 
 take_report p r = take_errors p r.ids r.errors
 
 -- What an element does with a message that its session passes. The show tells what stands behind a key, and the pin is that
--- of the current topology.
+-- of the current topology. The session takes the last four itself, so they are never asked.
 abbrev pub take : {P : Type 0} {S : Type 0} → Codec → (S → List Hop) → ElementSettings → P → Peer → Class → ℕ → Message → Element P S → Taken P S
 take c show e pin p class now (messages.PcReq asks) = each (take_asked c show e pin p class now) asks
 take c show e pin p class now (messages.PcRep replies) = each (take_reply c p) replies

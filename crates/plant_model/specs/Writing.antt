@@ -20,7 +20,7 @@ as_hop a = AsNumber false a
 abbrev pub needed : ℕ → Body → Object
 needed class b = record { class = class; kind = kinds.FIRST; must = true; body = b }
 
--- the type of END-POINTS (RFC 5440, section 7.6)
+-- the type of END-POINTS (RFC 5440, section 7.6); both ends of a request are of one kind, so two kinds are never asked
 abbrev pub ends_kind : Addr → Addr → ℕ
 ends_kind (V6 m) (V6 n) = kinds.END_POINTS_IPV6
 ends_kind (V6 m) (V4 n) = kinds.FIRST
