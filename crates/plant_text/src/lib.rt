@@ -30,5 +30,5 @@ pub use limits::{
 pub use line::{LineError, LineEvent};
 pub use lines::{read_blind_line, read_line};
 pub use network::Network;
-pub use settings::{DenyRow, ElementRow, NetworkParts, PeerRow};
+pub use settings::{Comes, DenyRow, ElementRow, NetworkParts, PeerRow};
 pub use write::write_sent;
