@@ -2,7 +2,7 @@
 #![tactic(auto)]
 
 mod arc;
-mod barred;
+mod asked;
 mod blocks;
 mod chosen;
 mod find;

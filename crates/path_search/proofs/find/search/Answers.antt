@@ -11,12 +11,12 @@ settle_all-requires g c κs =
     let starts = c.in_ok-labels.ensures.starts in
     let labels = c.in_ok-labels.labels.items in
     let done = c.in_ok-done.done.items in
-    rw (c.deref-2.ensures.value, c.deref_mut.ensures.value, c.deref_mut-2.ensures.value) (
+    rw (c.deref_mut.ensures.value, c.deref_mut-2.ensures.value) (
       (refl, tt),
       (
         c.in_ok-labels.ensures.rules,
         (
-          c.in_ok-barred.ensures,
+          c.in_ok-asked.ensures,
           (
             starts.same_length,
             (
