@@ -16,6 +16,8 @@ mod keys;
 #[cfg(test)]
 mod lines;
 #[cfg(test)]
+mod operator_lines;
+#[cfg(test)]
 mod script;
 #[cfg(test)]
 mod sessions;

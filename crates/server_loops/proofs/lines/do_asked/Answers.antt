@@ -3,8 +3,8 @@ use Rattle.ted_watch.specs.Watch.{published}
 use Rattle.server_loops.specs.Operating.{context, progress}
 use Rattle.server_loops.specs.OperatorSteps.{DoesFile, Goes}
 use Rattle.server_loops.specs.Texts.{bad_line_text}
-use Rattle.server_loops.proofs.Doing.{event_goes_file, said_or}
-use Rattle.server_loops.proofs.lines.do_event.Goals as goal
+use Rattle.server_loops.proofs.Doing.{asked_goes_file, said_or}
+use Rattle.server_loops.proofs.lines.do_asked.Goals as goal
 
 pub returns-in-Some-clause-goes : goal.returns-in-Some-clause-goes
 returns-in-Some-clause-goes g c =
@@ -17,7 +17,7 @@ returns-in-Some-clause-goes g c =
     let after = c.do_file.new.into.items in
     let is_change = c.in-Some.is_change in
     let at = c.in-Some.at in
-    event_goes_file x k c.args.event (Some (is_change, at, c.in-Some.name)) a b c.do_file.result a.past b.past spent before after (sym c.file_of.ensures ∙ c.in-Some.is)
+    asked_goes_file x k c.args.asked (Some (is_change, at, c.in-Some.name)) a b c.do_file.result a.past b.past spent before after (sym c.file_of.ensures ∙ c.in-Some.is)
     (subst (λ (name : List ℕ). Goes (DoesFile x k (Some (is_change, at, name)) a b) c.do_file.result a.past b.past spent before after) c.as_str-name.ensures c.do_file.ensures.goes)
 
 pub returns-in-None-clause-goes : goal.returns-in-None-clause-goes
@@ -28,5 +28,5 @@ returns-in-None-clause-goes g c =
     let spent = (g.D.Chart.charted c.args.desk.now).spent in
     let before = c.args.into.now.items in
     let after = c.tell_bad_line.new.into.items in
-    event_goes_file x k c.args.event None a a c.tell_bad_line.result a.past a.past spent before after (sym c.file_of.ensures ∙ c.in-None.is)
+    asked_goes_file x k c.args.asked None a a c.tell_bad_line.result a.past a.past spent before after (sym c.file_of.ensures ∙ c.in-None.is)
     (said_or (DoesFile x k None a a) (bad_line_text k) c.tell_bad_line.result a.past spent before after refl c.requires.fresh c.tell_bad_line.ensures.told c.tell_bad_line.ensures.lack)
