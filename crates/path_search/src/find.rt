@@ -9,11 +9,10 @@ ghost use Rattle.path_search.specs.Search.{IsArcOf, IsIdle, AreLabels};
 use crate::arc::Arc;
 use crate::asked::{Asked, allows_link, asked_by, bars_ends};
 use crate::labels::Labels;
-use crate::settle::can_lower;
 use crate::spread::settle_all;
 use crate::starts::starts_of;
 use crate::waiting::Waiting;
-use dom_base::{Label, NoMemory, Query, Seed};
+use dom_base::{NoMemory, Query, Seed};
 use path_constraints::weight;
 use std::alloc::Global;
 use te_links::Links;
@@ -25,7 +24,7 @@ pub(crate) fn arc_of<'a, G: Links<'a>>(
     links: &mut G,
     query: &Query,
     asked: &Asked,
-    labels: &[Option<Label>],
+    labels: &Labels,
     head: u32,
     index: u32,
 ) -> Option<Arc>
@@ -39,7 +38,7 @@ pub(crate) fn arc_of<'a, G: Links<'a>>(
     ensures reads { G.reads links.new ≤ G.reads links.old + 1 }
 {
     let (link, tail) = links.link_with_tail(index);
-    if !can_lower(labels, tail, head) {
+    if !labels.can_lower(tail, head) {
         return None;
     }
     if !allows_link(asked, query, link) || bars_ends(asked, tail, head) {
@@ -80,5 +79,5 @@ pub fn search<'a, G: Links<'a>>(
     let mut waiting = Waiting::of(alloc, &labels)?;
     let mut done = none_settled(alloc, labels.len())?;
     settle_all(links, query, &asked, &mut labels, &mut waiting, &mut done);
-    Ok(Labels::of(labels))
+    Ok(labels)
 }

@@ -11,21 +11,21 @@ ghost use Rattle.path_search.specs.Reading.{SpreadsLink, SpreadsNode, FindsLabel
 use crate::arc::Arc;
 use crate::asked::Asked;
 use crate::find::arc_of;
-use crate::settle::relax;
-use crate::waiting::{Waiting, cost_from};
-use dom_base::{Cost, Label, Query};
+use crate::labels::Labels;
+use crate::waiting::Waiting;
+use dom_base::{Cost, Query};
 use te_links::Links;
 
 // Relaxes an arc. A node whose label is lowered waits.
-fn spread_arc(cap: Cost, arc: Arc, labels: &mut [Option<Label>], waiting: &mut Waiting)
+fn spread_arc(cap: Cost, arc: Arc, labels: &mut Labels, waiting: &mut Waiting)
     requires among { IsArcAmong (length labels.old) arc }
     requires as_long { length waiting.old ≡ length labels.old }
     ensures spreads { Spreads cap arc labels.old labels.new waiting.old waiting.new }
     ensures labels { length labels.new ≡ length labels.old }
     ensures waiting { length waiting.new ≡ length waiting.old }
 {
-    if relax(cap, arc, labels) {
-        waiting.put(arc.tail, cost_from(labels, arc.tail));
+    if labels.relax(cap, arc) {
+        waiting.put(arc.tail, labels.cost_at(arc.tail));
     }
 }
 
@@ -36,7 +36,7 @@ fn spread_link<'a, G: Links<'a>>(
     asked: &Asked,
     head: u32,
     index: u32,
-    labels: &mut [Option<Label>],
+    labels: &mut Labels,
     waiting: &mut Waiting,
 )
     requires rules { IsTopology (G.rows links.old) }
@@ -62,7 +62,7 @@ pub(crate) fn spread_node<'a, G: Links<'a>>(
     query: &Query,
     asked: &Asked,
     place: u32,
-    labels: &mut [Option<Label>],
+    labels: &mut Labels,
     waiting: &mut Waiting,
 )
     requires rules { IsTopology (G.rows links.old) }
@@ -86,7 +86,7 @@ pub(crate) fn settle_all<'a, G: Links<'a>>(
     links: &mut G,
     query: &Query,
     asked: &Asked,
-    labels: &mut [Option<Label>],
+    labels: &mut Labels,
     waiting: &mut Waiting,
     done: &mut [bool],
 )
