@@ -175,11 +175,13 @@ def rows(table, *given):
 
 
 def in_a_row(count, peers, topologies=(), top="", **more):
-    """Settings of elements 1 to count, each linked to the next; peers are (name, domain, class, port), a neighbour's class with its domain."""
+    """Settings of elements 1 to count, each linked to the next; peers are (name, domain, class, port), a neighbour's class with its domain,
+    and where there are more keys of a row, these."""
     elements = [dict({"as": at, "id": "192.0.2.%d" % at}, **({"topology": topologies[at - 1]} if at <= len(topologies) else {}), **more)
                 for at in range(1, count + 1)]
     outside = []
-    for name, at, kind, port in peers:
+    for name, at, kind, port, *keys in peers:
         word, _, neighbour = kind.partition(" ")
-        outside.append(dict({"name": name, "as": at, "class": word, "port": port}, **({"neighbour": int(neighbour)} if neighbour else {})))
+        outside.append(dict({"name": name, "as": at, "class": word, "port": port}, **({"neighbour": int(neighbour)} if neighbour else {}),
+                            **(keys[0] if keys else {})))
     return top + rows("element", *elements) + rows("link", *({"a": at, "b": at + 1} for at in range(1, count))) + rows("peer", *outside)

@@ -14,7 +14,8 @@ class Ended(Exception):
 
 
 class Session:
-    """A connection to a port of an element, from any address of the machine or from `source`. All that is heard is kept in `heard`, message by message."""
+    """A connection to a port of an element, from an address of this machine where one is given. All that is heard is kept in `heard`,
+    message by message."""
 
     def __init__(self, host, port, within=30, source=None):
         self.within = within

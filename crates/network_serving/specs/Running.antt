@@ -1,5 +1,6 @@
 -- What a task does in a run: just what the call does that its kind makes, over its own fields.
 use Rattle.std.specs.Prelude.{◌≡◌, ◌↔◌, ℕ, [], List, Option, Some}
+use Rattle.dom_base.specs.declared.addr.Addr.{Addr}
 use Rattle.dom_base.specs.declared.names.As.{As}
 use Rattle.dom_edge.specs.Stores.{Files}
 use Rattle.ted_watch.specs.Watch.{known, published}
@@ -23,6 +24,8 @@ use Rattle.network_serving.specs.Watching.{WatchesPort}
 -- what is told of the outside: of a listener, of a store of files, of an input and of an output
 pub record Outside (K F I O : Type 0) : Type 0 where
   pub opened_at : K → ℕ
+  pub heeds : K → Option Addr
+  pub dialled_to : K → Option Addr
   pub accept_faults : K → ℕ
   pub quiets : K → ℕ
   pub files : F → Option Files
@@ -43,14 +46,18 @@ WorkedAsShown e s = (t : ℕ) → (e ≡ worked.Spent t) ↔ (s.spent ≡ Some t
 abbrev pub OperatedAsShown : Operated → Stand → Type 0
 OperatedAsShown e s = (t : ℕ) → (e ≡ operated.Spent t) ↔ (s.spent ≡ Some t)
 
+-- the port, whom it heeds and whom it dials are what they were
+abbrev pub IsSameListener : {K F I O : Type 0} → Outside K F I O → K → K → Type 0
+IsSameListener x new old = (x.opened_at new ≡ x.opened_at old) × (x.heeds new ≡ x.heeds old) × (x.dialled_to new ≡ x.dialled_to old)
+
 abbrev pub waits_of : {K F I O : Type 0} → Outside K F I O → K → Waits
 waits_of x l = waits (x.accept_faults l) (x.quiets l)
 
 module _ {K F I O R : Type 0} (x : Outside K F I O) (turns : ℕ) where
   -- The first of these tasks became the second, and ended so.
   abbrev pub RunsTask : TaskEnd → Task K F I O R → Task K F I O R → Type 0
-  RunsTask (end.Ran e) (task.Port peer listener desk) (task.Port peer' listener' desk') =
-      (peer' ≡ peer) × (x.opened_at listener' ≡ x.opened_at listener)
+  RunsTask (end.Ran e) (task.Port peer comes listener desk) (task.Port peer' comes' listener' desk') =
+      (peer' ≡ peer) × (comes' ≡ comes) × IsSameListener x listener' listener
       × ServesPort peer turns e (desked_of (stand_of desk)) (desked_of (stand_of desk')) (waits_of x listener) (waits_of x listener')
       × RanAsShown e (stand_of desk')
   RunsTask (end.Ran e) (task.Carry links desk) (task.Carry links' desk') =
@@ -67,5 +74,5 @@ module _ {K F I O R : Type 0} (x : Outside K F I O) (turns : ℕ) where
       (sides (side (x.left input') (x.input_faults input')) (side (x.written out') (x.output_faults out')))
       × OperatedAsShown e (stand_of desk')
   RunsTask end.Watching (task.Watch rt watcher listener) (task.Watch rt' watcher' listener') =
-      (x.opened_at listener' ≡ x.opened_at listener) × WatchesPort turns (known watcher) (known watcher') (waits_of x listener) (waits_of x listener')
+      IsSameListener x listener' listener × WatchesPort turns (known watcher) (known watcher') (waits_of x listener) (waits_of x listener')
   RunsTask e old new = ⊥

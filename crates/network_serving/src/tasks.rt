@@ -1,7 +1,7 @@
 //! The tasks of a program that serves a network.
 use cost_cache::Cache;
 use dom_base::{As, List};
-use plant_text::Network;
+use plant_text::{Comes, Network};
 use std::sync::Wait;
 use std::time::Clock;
 use ted_watch::{Publisher, Watcher};
@@ -10,9 +10,10 @@ use turn_desk::TurnDesk;
 /// What a thread does, with all that it does it with: nothing but the lock of the network is shared.
 #[derive(Drop)]
 pub enum Task<K, F, I, O, R: Wait + Clock + Drop> {
-    /// Serves the connections of a peer, one after the other.
+    /// Serves the connections of a peer, one after the other. The listener heeds and dials whom `comes` says.
     Port {
         peer: u32,
+        comes: Comes,
         listener: K,
         desk: TurnDesk<R>,
     },

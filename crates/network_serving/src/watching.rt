@@ -17,6 +17,8 @@ fn accept_once<K: Listener, R: Wait>(rt: &R, alloc: Global, watcher: &mut Watche
     ensures turn { IsWatchTurn (known watcher.old) (known watcher.new) (waits (K.faults listener.old) (K.quiets listener.old)) (waits (K.faults listener.new) (K.quiets listener.new)) }
     ensures list { list_at watcher.new ≡ list_at watcher.old }
     ensures port { K.opened_at listener.new ≡ K.opened_at listener.old }
+    ensures heeds { K.heeds listener.new ≡ K.heeds listener.old }
+    ensures dials { K.dialled_to listener.new ≡ K.dialled_to listener.old }
 {
     match listener.accept() {
         Accepted::Link(link) => {
@@ -39,6 +41,8 @@ pub(crate) fn watch_port<K: Listener, R: Wait>(
     ensures watches { WatchesPort turns (known watcher.old) (known watcher.new) (waits (K.faults listener.old) (K.quiets listener.old)) (waits (K.faults listener.new) (K.quiets listener.new)) }
     ensures list { list_at watcher.new ≡ list_at watcher.old }
     ensures port { K.opened_at listener.new ≡ K.opened_at listener.old }
+    ensures heeds { K.heeds listener.new ≡ K.heeds listener.old }
+    ensures dials { K.dialled_to listener.new ≡ K.dialled_to listener.old }
 {
     for _turn in 0..turns {
         accept_once(rt, alloc, watcher, listener);

@@ -30,6 +30,8 @@ fn accept_once<K: Listener, D: Desk>(
 ) -> u32
     ensures hosted { IsHosted peer holder result (D.desked desk.old) (D.desked desk.new) (waits (K.faults listener.old) (K.quiets listener.old)) (waits (K.faults listener.new) (K.quiets listener.new)) }
     ensures port { K.opened_at listener.new ≡ K.opened_at listener.old }
+    ensures heeds { K.heeds listener.new ≡ K.heeds listener.old }
+    ensures dials { K.dialled_to listener.new ≡ K.dialled_to listener.old }
 {
     match listener.accept() {
         Accepted::Link(link) => {
@@ -53,6 +55,8 @@ pub fn serve_port<K: Listener, D: Desk>(
     ensures serves { ServesPort peer turns result (D.desked desk.old) (D.desked desk.new) (waits (K.faults listener.old) (K.quiets listener.old)) (waits (K.faults listener.new) (K.quiets listener.new)) }
     ensures spent { (t : ℕ) → (result ≡ SpentAt t) ↔ ((D.desked desk.new).spent ≡ Some t) }
     ensures port { K.opened_at listener.new ≡ K.opened_at listener.old }
+    ensures heeds { K.heeds listener.new ≡ K.heeds listener.old }
+    ensures dials { K.dialled_to listener.new ≡ K.dialled_to listener.old }
 {
     let mut holder = 0u32;
     for _turn in 0..turns {

@@ -95,6 +95,7 @@ fn a_client_is_answered(rt: HostRuntime) -> Result<(), Fail> {
         MemorySource::new(List::new(alloc), List::new(alloc)),
         MemorySink::new(alloc, List::new(alloc)),
         &mut MemorySink::new(alloc, List::new(alloc)),
+        "127.0.0.1",
         100,
     );
     assert!(rt; matches!(served, Served::Turns));

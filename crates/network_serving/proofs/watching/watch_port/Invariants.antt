@@ -9,4 +9,6 @@ invariant-loop-turn g l = record {
   watches : WatchesPort l._turn (known l.initial.watcher) (known l.watcher) (waits (g.K.Listener.faults l.initial.listener) (g.K.Listener.quiets l.initial.listener)) (waits (g.K.Listener.faults l.listener) (g.K.Listener.quiets l.listener));
   list : list_at l.watcher ≡ list_at l.initial.watcher;
   port : g.K.Listener.opened_at l.listener ≡ g.K.Listener.opened_at l.initial.listener;
+  heeds : g.K.Listener.heeds l.listener ≡ g.K.Listener.heeds l.initial.listener;
+  dials : g.K.Listener.dialled_to l.listener ≡ g.K.Listener.dialled_to l.initial.listener;
 }

@@ -7,4 +7,6 @@ abbrev pub invariant-loop-turn : goal.invariant-loop-turn
 invariant-loop-turn g l = record {
   hosting : IsHosting l.peer l.holder l._turn (g.D.Desk.desked l.initial.desk) (g.D.Desk.desked l.desk) (waits (g.K.Listener.faults l.initial.listener) (g.K.Listener.quiets l.initial.listener)) (waits (g.K.Listener.faults l.listener) (g.K.Listener.quiets l.listener));
   port : g.K.Listener.opened_at l.listener ≡ g.K.Listener.opened_at l.initial.listener;
+  heeds : g.K.Listener.heeds l.listener ≡ g.K.Listener.heeds l.initial.listener;
+  dials : g.K.Listener.dialled_to l.listener ≡ g.K.Listener.dialled_to l.initial.listener;
 }
