@@ -2,9 +2,10 @@
 use Rattle.std.specs.Prelude.{◌≡◌, ◌↔◌, ℕ, [], List, Option, Some}
 use Rattle.dom_base.specs.declared.addr.Addr.{Addr}
 use Rattle.dom_base.specs.declared.names.As.{As}
+use Rattle.dom_edge.specs.Heeding.{Sides}
 use Rattle.dom_edge.specs.Stores.{Files}
 use Rattle.ted_watch.specs.Watch.{known, published}
-use Rattle.server_loops.specs.Serving.{CarriesLinks, ServesPort, Waits, waits}
+use Rattle.server_loops.specs.Serving.{CarriesLinks, Heard, ServesPort, heard}
 use Rattle.server_loops.specs.declared.port.Ran.{Ran}
 use Rattle.server_loops.specs.declared.port.Ran.TheVariants as ran
 use Rattle.server_loops.specs.WorkerTurns.{Runs}
@@ -28,6 +29,7 @@ pub record Outside (K F I O : Type 0) : Type 0 where
   pub dialled_to : K → Option Addr
   pub accept_faults : K → ℕ
   pub quiets : K → ℕ
+  pub handed : K → List Sides
   pub files : F → Option Files
   pub store_faults : F → ℕ
   pub failed_at : F → List ℕ
@@ -50,15 +52,15 @@ OperatedAsShown e s = (t : ℕ) → (e ≡ operated.Spent t) ↔ (s.spent ≡ So
 abbrev pub IsSameListener : {K F I O : Type 0} → Outside K F I O → K → K → Type 0
 IsSameListener x new old = (x.opened_at new ≡ x.opened_at old) × (x.heeds new ≡ x.heeds old) × (x.dialled_to new ≡ x.dialled_to old)
 
-abbrev pub waits_of : {K F I O : Type 0} → Outside K F I O → K → Waits
-waits_of x l = waits (x.accept_faults l) (x.quiets l)
+abbrev pub heard_of : {K F I O : Type 0} → Outside K F I O → K → Heard
+heard_of x l = heard (x.accept_faults l) (x.quiets l) (x.handed l)
 
 module _ {K F I O R : Type 0} (x : Outside K F I O) (turns : ℕ) where
   -- The first of these tasks became the second, and ended so.
   abbrev pub RunsTask : TaskEnd → Task K F I O R → Task K F I O R → Type 0
   RunsTask (end.Ran e) (task.Port peer comes listener desk) (task.Port peer' comes' listener' desk') =
       (peer' ≡ peer) × (comes' ≡ comes) × IsSameListener x listener' listener
-      × ServesPort peer turns e (desked_of (stand_of desk)) (desked_of (stand_of desk')) (waits_of x listener) (waits_of x listener')
+      × ServesPort peer turns e (desked_of (stand_of desk)) (desked_of (stand_of desk')) (heard_of x listener) (heard_of x listener')
       × RanAsShown e (stand_of desk')
   RunsTask (end.Ran e) (task.Carry links desk) (task.Carry links' desk') =
       (links' ≡ links) × CarriesLinks links turns e (desked_of (stand_of desk)) (desked_of (stand_of desk')) × RanAsShown e (stand_of desk')
@@ -74,5 +76,5 @@ module _ {K F I O R : Type 0} (x : Outside K F I O) (turns : ℕ) where
       (sides (side (x.left input') (x.input_faults input')) (side (x.written out') (x.output_faults out')))
       × OperatedAsShown e (stand_of desk')
   RunsTask end.Watching (task.Watch rt watcher listener) (task.Watch rt' watcher' listener') =
-      IsSameListener x listener' listener × WatchesPort turns (known watcher) (known watcher') (waits_of x listener) (waits_of x listener')
+      IsSameListener x listener' listener × WatchesPort turns (known watcher) (known watcher') (heard_of x listener) (heard_of x listener')
   RunsTask e old new = ⊥
