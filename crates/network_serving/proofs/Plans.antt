@@ -9,6 +9,7 @@ use Rattle.std.proofs.lemmas.List.Elements.{All-head, All-nil, All-push, All-tai
 use Rattle.std.proofs.lemmas.Option.{slice_get-map, slice_get_read}
 use Rattle.std.specs.Option.{option_map}
 use Rattle.dom_edge.specs.Causes.{next_count}
+use Rattle.dom_edge.proofs.Counts.{counted_more}
 use Rattle.plant_text.specs.declared.settings.NetworkParts.{NetworkParts}
 use Rattle.plant_text.specs.declared.settings.PeerRow.{PeerRow}
 use Rattle.plant_text.specs.declared.settings.Comes.{Comes}
@@ -138,8 +139,5 @@ new_taken heeds dialled_to yielded rest later whole x such all next = taken_such
 
 -- ---- counts
 
-pub rose_none : (n : ℕ) → n < 2 ^ 64 → RoseBy 0 (n, n)
-rose_none n small = omega (arith, small)
-
 pub rose_more : (k a b c : ℕ) → RoseBy k (a, b) → c ≡ next_count b → RoseBy (k + 1) (a, c)
-rose_more k a b c first second = omega (arith, first, second)
+rose_more k a b c first second = second ∙ ap next_count first ∙ sym (counted_more k a)
