@@ -17,7 +17,7 @@ use Rattle.walk_laws.specs.Certificate.{AtMost}
 use Rattle.path_search.specs.declared.arc.Arc.{Arc}
 use Rattle.path_search.specs.declared.blocks.TheConstants.{NOTHING}
 use Rattle.path_search.specs.declared.short.Short.{Short}
-use Rattle.path_search.specs.Arcs.{label_at, joined, IsBelow, IsRelaxed, CanLower, Lowers, LowersByOne}
+use Rattle.path_search.specs.Arcs.{label_at, IsBelow, IsRelaxed, CanLower, Lowers, LowersByOne}
 use Rattle.path_search.specs.Front.{cost_of}
 use Rattle.path_search.specs.Short.{long_of, label_if, label_by, labels_by, put_before, IsLess, IsShort, DoRise, AreShort, no_label}
 use Rattle.path_search.specs.Starts.{Offers}
@@ -160,6 +160,7 @@ above_cap exits rows cap a h at_head never rest is within =
     let has = label_is exits h rest (sym (at_row exits rows a.head h at_head) ∙ is) in
     absurd (never (omega (arith, within, ap (λ (b : Label). b.cost) has.1)))
 
+-- what is not above a label is at most that
 pub not_below : (b : Label) (o : Option Label) → (IsBelow b o → ⊥) → AtMost o b
 not_below b None never = never tt
 not_below b (Some a) never =
@@ -173,19 +174,6 @@ not_below b (Some a) never =
         ]
       ]
     ]
-
--- neither is a label that is no greater
-pub kept_short : (exits : List Addr) (rows : List Short) (cap : ℕ) (a : Arc) (t h : Short) → AreShort exits rows → slice_get rows a.tail ≡ Some t → slice_get rows a.head ≡ Some h →
-    cap ≤ COST_MAX → a.weight + h.cost ≤ cap → (IsLess (put_before a.weight h) t → ⊥) → IsRelaxed cap (labels_by exits rows) a
-kept_short exits rows cap a t h are at_tail at_head bound within never rest is rest_within =
-    let found : Short = put_before a.weight h in
-    let small : found.cost < NOTHING = omega (arith, cost_small cap bound, within) in
-    let has = label_is exits h rest (sym (at_row exits rows a.head h at_head) ∙ is) in
-    let inside = (held_at exits rows a.head h are at_head).exit has.0 in
-    let here : AtMost (label_at (labels_by exits rows) a.tail) (long_of exits found) =
-    not_below (long_of exits found) (label_at (labels_by exits rows) a.tail)
-    (λ below. never (below_less exits found t are.rise inside small (subst (IsBelow (long_of exits found)) (at_row exits rows a.tail t at_tail) below))) in
-    subst (λ (r : Label). AtMost (label_at (labels_by exits rows) a.tail) (joined a r)) has.1 here
 
 -- a row that is short for a label is written
 pub held_set : (exits : List Addr) (rows : List Short) (i : ℕ) (s : Short) → AreShort exits rows → s.cost ≤ COST_MAX → s.exit < length exits → AreShort exits (slice_set rows i s)
