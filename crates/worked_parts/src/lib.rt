@@ -22,6 +22,8 @@ mod script;
 #[cfg(test)]
 mod sessions;
 #[cfg(test)]
+mod stirs;
+#[cfg(test)]
 mod turns;
 #[cfg(test)]
 mod unused;
