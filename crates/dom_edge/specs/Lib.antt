@@ -4,5 +4,6 @@ pub mod Streams
 pub mod Whole
 pub mod Stores
 pub mod Memory
+pub mod Time
 pub mod Opening
 pub mod Links
