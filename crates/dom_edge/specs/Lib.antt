@@ -5,5 +5,7 @@ pub mod Whole
 pub mod Stores
 pub mod Memory
 pub mod Time
+pub mod Moments
+pub mod Folders
 pub mod Opening
 pub mod Links

@@ -1,9 +1,13 @@
 //! The outside: where bytes come from and go to, files by their names, clocks, and ports with their connections.
 #![tactic(auto)]
 
+mod calendar;
 mod calls;
 mod clock;
+mod file_folder;
+mod folder;
 mod listener;
+mod named;
 mod pieces;
 mod ports;
 mod rest;
@@ -17,9 +21,13 @@ mod waits;
 mod whole;
 mod wire;
 
+pub use calendar::{Calendar, MemoryCalendar, Moment, WallCalendar};
 pub use calls::PlannedCalls;
 pub use clock::{Clock, MemoryClock, WallClock};
+pub use file_folder::FileFolder;
+pub use folder::{Folder, FolderError, MemoryFolder};
 pub use listener::{Accepted, Listener, MemoryListener, SteadyListener};
+pub use named::{MemoryFile, NamedFile};
 pub use ports::{MemoryPorts, Opened, Ports};
 pub use sink::{MemorySink, OutputSink, Put, Sink};
 pub use sockets::{PortListener, SocketLink, SocketPorts};
