@@ -93,11 +93,7 @@ fn opened<Q: Ports>(ports: &mut Q, port: u16, comes: Comes) -> Opened<Q::Port>
 }
 
 /// Listens at a port, or will dial one, as is said of who connects.
-pub(crate) fn open_port<Q: Ports>(
-    ports: &mut Q,
-    port: u16,
-    comes: Comes,
-) -> Result<Q::Port, Served>
+pub(crate) fn open_port<Q: Ports>(ports: &mut Q, port: u16, comes: Comes) -> Result<Q::Port, Served>
     ensures ok { IfOk result (λ listener. Q.Port.opened_at listener ≡ port) }
     ensures heeds { IfOk result (λ listener. (Q.Port.heeds listener ≡ heeded comes) × (Q.Port.dialled_to listener ≡ dialled comes)) }
     ensures err { IfErr result (IsClosed port (Q.faults ports.old, Q.faults ports.new) (Q.failed_at ports.new)) }

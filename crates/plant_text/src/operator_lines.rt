@@ -108,7 +108,11 @@ fn break_link(words: &mut Words<'_>, _peers: &[PeerRow]) -> Result<OperatorLine,
 }
 
 #[tactic(auto, unfolding(crate::specs::OperatorLines::behind))]
-fn write(alloc: Global, words: &mut Words<'_>, _peers: &[PeerRow]) -> Result<OperatorLine, LineError>
+fn write(
+    alloc: Global,
+    words: &mut Words<'_>,
+    _peers: &[PeerRow],
+) -> Result<OperatorLine, LineError>
     ensures { Gives result (behind _peers.now OperatorVerb.Write words.old) }
 {
     let (at, file) = at_and_file(alloc, words)?;

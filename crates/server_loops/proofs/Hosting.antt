@@ -36,6 +36,7 @@ module _ (peer holder : ℕ) (old new : Heard) where
       risen : (answer ≡ accepted.Quiet) ⊎ (answer ≡ accepted.Failed) → Rose old.faults new.faults ⊎ Rose old.quiets new.quiets
       risen (inl is) = inr (quiet.failed is)
       risen (inr is) = inl (failed.failed is)
+
       none_handed : (a : Accepted L) → (a ≡ accepted.Quiet) ⊎ (a ≡ accepted.Failed) → HandsOut reading writing old.handed new.handed a → new.handed ≡ old.handed
       none_handed (accepted.Link link) (inl is) handed = cc
       none_handed (accepted.Link link) (inr is) handed = cc

@@ -298,7 +298,11 @@ fn each_event_stirs_whom_its_row_says(rt: HostRuntime) -> Result<(), Fail> {
     for (settings, rows) in &tables {
         let mut plant = begin(rt.alloc(), settings).ok_or("a network")?;
         for (place, row) in rows.split(|c| *c == b'\n').enumerate() {
-            assert_eq!(rt; holds(rt.alloc(), &mut plant, row), Some(true), "row {place}");
+            assert_eq!(rt;
+                holds(rt.alloc(), &mut plant, row),
+                Some(true),
+                "row {place}"
+            );
         }
     }
     Ok(())

@@ -13,4 +13,4 @@ returns-in-Link-clause-hosted g c =
     let link = sides (g.K.Link.Wire.reading c.in-Link.link) (g.K.Link.Wire.writing c.in-Link.link) in
     let after = sides (g.K.Link.Wire.reading c.serve_session.new.link) (g.K.Link.Wire.writing c.serve_session.new.link) in
     hosted c.args.peer c.args.holder old new ((c.args.holder + 1) % 2 ^ 32) d e c.serve_session.result link after c.serve_session.ensures.serves c.in-Link.ensures.failed.later c.in-Link.ensures.quiet.later
-        c.in-Link.ensures.handed refl
+    c.in-Link.ensures.handed refl
