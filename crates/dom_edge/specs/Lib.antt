@@ -1,4 +1,4 @@
--- Causes, Streams and Stores are what callers read; Memory and Links say what the forms in memory hold.
+-- Causes, Streams, Stores, Heeding and Opening are what callers read; Memory and Links say what the forms in memory hold, Sockets what the real ones tell.
 pub mod Causes
 pub mod Streams
 pub mod Whole
@@ -7,5 +7,7 @@ pub mod Memory
 pub mod Time
 pub mod Moments
 pub mod Folders
+pub mod Heeding
 pub mod Opening
 pub mod Links
+pub mod Sockets

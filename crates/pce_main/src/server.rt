@@ -109,7 +109,7 @@ where
         alloc,
         settings,
         &mut FileStore::new(alloc, *rt),
-        &mut SocketPorts::new(*rt, address),
+        &mut SocketPorts::new(*rt, alloc, address),
         &mut spawner,
         &mut WallClock::new(*rt),
         FileStore::new(alloc, *rt),

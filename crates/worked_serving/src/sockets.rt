@@ -88,7 +88,7 @@ fn a_client_is_answered(rt: HostRuntime) -> Result<(), Fail> {
         alloc,
         "net.toml",
         &mut store(alloc, port)?,
-        &mut SocketPorts::new(rt, IpAddr::V4(Ipv4Addr::LOCALHOST)),
+        &mut SocketPorts::new(rt, alloc, IpAddr::V4(Ipv4Addr::LOCALHOST)),
         &mut spawner,
         &mut WallClock::new(rt),
         store(alloc, port)?,
