@@ -48,12 +48,14 @@ struct Inside {
     waits: Mutex<Waits>,
 }
 
-/// What ended a wait: one of its sockets is to be looked at, its bell was rung, or the time is up. Both kinds of socket may be
-/// there at once.
+/// What ended a wait: something can be read of the stream, it may have room, somebody may have come in at the port, or the bell was
+/// rung. Where it is none of these the time is up.
 #[derive(Clone, Copy)]
 pub struct Woken {
-    pub stream: bool,
+    pub readable: bool,
+    pub writable: bool,
     pub port: bool,
+    pub rung: bool,
 }
 
 /// Where one thread waits: for a stream, for a port that is listened at, and for its bell, all in one call of the system.
@@ -150,12 +152,14 @@ impl Place {
         if word.compare_exchange(AWAKE, WAITS, SeqCst, SeqCst).is_err() {
             word.store(AWAKE, SeqCst);
             return Woken {
-                stream: false,
+                readable: false,
+                writable: false,
                 port: false,
+                rung: true,
             };
         }
-        let woken = self.sleep(self.bounded(limit));
-        word.store(AWAKE, SeqCst);
+        let mut woken = self.sleep(self.bounded(limit));
+        woken.rung = word.swap(AWAKE, SeqCst) == RUNG;
         woken
     }
 
@@ -175,21 +179,29 @@ impl Place {
 
     // A place is used by one thread, so nobody else has the lock; where the system can't wait, all is to be looked at.
     fn sleep(&self, limit: Duration) -> Woken {
-        let all = Woken {
-            stream: true,
-            port: true,
+        let mut woken = Woken {
+            readable: false,
+            writable: false,
+            port: false,
+            rung: false,
         };
         let Some(mut waits) = self.inside.waits.try_lock() else {
-            return all;
+            woken.readable = true;
+            return woken;
         };
         let Waits { poll, events } = &mut *waits;
         if poll.poll(events, Some(limit)).is_err() {
-            return all;
+            woken.readable = true;
+            return woken;
         }
-        Woken {
-            stream: events.iter().any(|event| event.token() == STREAM),
-            port: events.iter().any(|event| event.token() == PORT),
+        for event in events.iter() {
+            if event.token() == STREAM {
+                woken.readable |= event.is_readable() || event.is_read_closed() || event.is_error();
+                woken.writable |= event.is_writable();
+            }
+            woken.port |= event.token() == PORT;
         }
+        woken
     }
 }
 

@@ -19,6 +19,9 @@ use std::time::{Clock, Duration, Instant};
 // How long a read waits at most before it is quiet, in seconds.
 const READ_SECONDS: u64 = 10;
 
+// How often a read that was woken by something else waits on at most.
+const WAKES: u32 = 8;
+
 // How long a write waits until the other end makes room, before it fails, in seconds.
 const WRITE_SECONDS: u64 = 60;
 
@@ -114,16 +117,25 @@ impl<S: Read + Write + OpenStream + Drop, R: Clock + Drop, D: Door + Drop> Socke
         self.from
     }
 
-    // Waits for a byte or the bell. Whether there is something to be read.
+    // Waits for a byte or the bell. Whether there is something to be read. Where its port woke it, it sorts who came there; where that
+    // is all, or the stream has room, it waits on.
     fn wait(&self) -> bool {
         let Some(place) = &self.place else {
             return false;
         };
-        let woken = place.wait(Duration::from_secs(READ_SECONDS));
-        if woken.port {
-            self.door.sort();
+        for _wake in 0..WAKES {
+            let woken = place.wait(Duration::from_secs(READ_SECONDS));
+            if woken.port {
+                self.door.sort();
+            }
+            if woken.readable {
+                return true;
+            }
+            if woken.rung || !(woken.port || woken.writable) {
+                return false;
+            }
         }
-        woken.stream
+        false
     }
 
     // Reads what is there. Where nothing is, it waits, and looks once more where something happened at the stream.
