@@ -14,4 +14,6 @@ mod memory;
 #[cfg(test)]
 mod moments;
 #[cfg(test)]
+mod sockets;
+#[cfg(test)]
 mod texts;
