@@ -1,5 +1,5 @@
 -- What a port, a carrier and the teller of the time make.
-use Rattle.std.specs.Prelude.{◌≡◌, ◌≢◌, ◌⊎◌, ◌<◌, ◌≤◌, ◌+◌, ◌-◌, ◌%◌, ◌^◌, ℕ, List, [], ◌∷◌, ◌++◌, length, map, nat_lt, cond, None, Some, MatchOption}
+use Rattle.std.specs.Prelude.{◌≡◌, ◌≢◌, ◌⊎◌, ◌<◌, ◌≤◌, ◌+◌, ◌-◌, ◌%◌, ◌^◌, ℕ, List, [], ◌∷◌, ◌++◌, length, map, nat_lt, cond, Contains, None, Some, MatchOption}
 use Rattle.std.specs.List.{AllByRecursion}
 use Rattle.std.specs.declared.option.Option.{Option}
 use Rattle.dom_base.specs.declared.names.As.{As}
@@ -99,6 +99,22 @@ pub record CarriesLinks (links : List (As × As)) (turns : ℕ) (end : Ran) (old
   pub calls : new.calls ≡ old.calls ++ (joined rounds ++ last)
   pub each : AllByRecursion (λ (round : List Call). events round ≡ carries links) rounds
   pub ends : IsCarriedOff end links (length rounds) turns last
+
+-- the Carry of one of these pairs
+abbrev pub IsCarryOf : List (As × As) → Call → Type 0
+IsCarryOf links c = (pair : As × As) × Contains links pair × (c.event ≡ Carry pair.0 pair.1)
+
+-- no turn is made where there is no pair
+abbrev pub IsCarryCount : List (As × As) → Ran → ℕ → ℕ → Type 0
+IsCarryCount [] end made turns = made ≡ 0
+IsCarryCount (pair ∷ links) end made turns = IsTurnCount end made turns
+
+-- the turns of a carrier that has a guide: in each the Carry of one of the pairs
+pub record CarriesGuided (links : List (As × As)) (turns : ℕ) (end : Ran) (old new : Desked) : Type 0 where
+  pub made : List Call
+  pub calls : new.calls ≡ old.calls ++ made
+  pub each : AllByRecursion (IsCarryOf links) made
+  pub count : IsCarryCount links end (length made) turns
 
 -- ---- the time
 

@@ -13,7 +13,7 @@ use Rattle.plant_model.specs.declared.outcome.Outcome.{Outcome}
 use Rattle.plant_model.specs.declared.outcome.Refused.TheVariants.{NoSuchPeer, NoMemory as NoRoom}
 use Rattle.server_loops.specs.Desks.{Answer, Call, Desked, Goes, call}
 use Rattle.server_loops.specs.Sessions.{drained, joined, IsNone, refused, IsAccepted, AreTakes, IsDrained, IsTurn, IsRefused, AreTurns, IsCount, Last}
-use Rattle.server_loops.specs.Serving.{BeginsWith, Heard, calls_of, carries, events, links_of, IsHost}
+use Rattle.server_loops.specs.Serving.{BeginsWith, Heard, calls_of, carries, events, links_of, IsCarryOf, IsHost}
 use Rattle.dom_base.specs.declared.names.As.{As}
 use Rattle.server_loops.specs.declared.desks.DeskRefused.{DeskRefused}
 use Rattle.server_loops.specs.declared.desks.DeskRefused.TheVariants as desk
@@ -149,6 +149,11 @@ pub record IsRound (links : List (As × As)) (result : Result (Unit {0}) ℕ) (o
   pub made : List Call
   pub calls : new.calls ≡ old.calls ++ made
   pub rounds : Rounds links result made new
+
+-- one Carry of one of these pairs
+abbrev pub IsCarriedOf : List (As × As) → Result ℕ ℕ → Desked → Desked → Type 0
+IsCarriedOf links (Ok place) old new = (c : Call) × IsCarryOf links c × (new.calls ≡ old.calls ++ c ∷ [])
+IsCarriedOf links (Err t) old new = (new.calls ≡ old.calls) × (new.spent ≡ Some t)
 
 -- ---- a port
 
