@@ -5,7 +5,7 @@ use Rattle.dom_base.specs.declared.names.As.{As}
 use Rattle.dom_edge.specs.Heeding.{Sides}
 use Rattle.dom_edge.specs.Stores.{Files}
 use Rattle.ted_watch.specs.Watch.{known, published}
-use Rattle.server_loops.specs.Serving.{CarriesLinks, Heard, ServesPort, heard}
+use Rattle.server_loops.specs.Serving.{CarriesGuided, Heard, ServesPort, heard}
 use Rattle.server_loops.specs.declared.port.Ran.{Ran}
 use Rattle.server_loops.specs.declared.port.Ran.TheVariants as ran
 use Rattle.server_loops.specs.WorkerTurns.{Runs}
@@ -15,6 +15,8 @@ use Rattle.server_loops.specs.Operating.{Operates, context, side, sides, progres
 use Rattle.server_loops.specs.declared.operating.Operated.{Operated}
 use Rattle.server_loops.specs.declared.operating.Operated.TheVariants as operated
 use Rattle.turn_desk.specs.Desks.{Stand, benched_of, desked_of, stand_of}
+use Rattle.turn_desk.specs.Works.{works}
+use Rattle.turn_desk.specs.WorkBenches.{bench_of, desk_of}
 use Rattle.turn_desk.specs.Charts.{charted_of}
 use Rattle.network_serving.specs.declared.running.TaskEnd.{TaskEnd}
 use Rattle.network_serving.specs.declared.running.TaskEnd.TheVariants as end
@@ -63,10 +65,11 @@ module _ {K F I O R : Type 0} (x : Outside K F I O) (turns : ℕ) where
       × ServesPort peer turns e (desked_of (stand_of desk)) (desked_of (stand_of desk')) (heard_of x listener) (heard_of x listener')
       × RanAsShown e (stand_of desk')
   RunsTask (end.Ran e) (task.Carry links desk) (task.Carry links' desk') =
-      (links' ≡ links) × CarriesLinks links turns e (desked_of (stand_of desk)) (desked_of (stand_of desk')) × RanAsShown e (stand_of desk')
+      (links' ≡ links) × CarriesGuided links turns e (desked_of (stand_of desk)) (desked_of (stand_of desk')) × RanAsShown e (stand_of desk')
   RunsTask (end.Worked e) (task.Work index cache bench) (task.Work index' cache' bench') =
-      (index' ≡ index) × ((passed : List (As × ℕ)) × Runs index turns e (benched_of (stand_of bench)) (benched_of (stand_of bench')) [] passed cache')
-      × WorkedAsShown e (stand_of bench')
+      (index' ≡ index) × ((passed : List (As × ℕ)) × Runs index turns e (bench_of bench) (bench_of bench') [] passed cache')
+      × (works (bench_of bench').calls ≡ works (benched_of (desk_of bench')).calls)
+      × WorkedAsShown e (desk_of bench')
   RunsTask (end.Operated e) (task.Operate desk files network publisher input out) (task.Operate desk' files' network' publisher' input' out') =
       (network' ≡ network) × (x.files files' ≡ x.files files)
       × Operates (context network (x.files files)) turns e

@@ -8,6 +8,7 @@ ghost use Rattle.network_serving.specs.declared.duties.Duty.TheVariants.{Carry};
 ghost use Rattle.network_serving.specs.Duties.{both_ways, child_ways, first_duties, port_duties, ways_of, work_duties};
 ghost use Rattle.network_serving.specs.Ends.{RoseBy};
 ghost use Rattle.network_serving.specs.Ports.{dialled, heeded};
+ghost use Rattle.turn_desk.specs.Desks.{stand_of};
 ghost use Rattle.network_serving.specs.Starting.{Adds, IsClosed, IsPlanEnd, called, peer_ports};
 
 use crate::served::Served;
@@ -20,7 +21,7 @@ use plant_text::{Comes, Network, NetworkParts, PeerRow};
 use std::alloc::Global;
 use std::sync::Wait;
 use std::time::Clock;
-use turn_desk::TurnDesk;
+use turn_desk::{TurnDesk, WorkBench};
 
 // How many solved jobs each worker keeps.
 const CACHE_CAPACITY: usize = 64;
@@ -70,7 +71,9 @@ pub(crate) fn ways_of(alloc: Global, parts: &NetworkParts) -> Result<List<(As, A
 pub(crate) fn desk_beside<R: Wait + Clock + Copy + Drop>(
     rt: R,
     desk: &mut TurnDesk<R>,
-) -> Result<TurnDesk<R>, NoMemory> {
+) -> Result<TurnDesk<R>, NoMemory>
+    ensures new { IfOk result (λ desk. (stand_of desk).own ≡ []) }
+{
     match desk.split(rt) {
         Ok(desk) => Ok(desk),
         Err(_) => Err(NoMemory),
@@ -140,6 +143,9 @@ fn add_ports<Q: Ports, F: Drop, I: Drop, O: Drop, R: Wait + Clock + Copy + Drop>
         let row = &peers[peer];
         let listener = open_port(ports, row.port, row.comes)?;
         let desk = desk_beside(rt, desk)?;
+        if let Some(bell) = listener.bell() {
+            desk.hang(peer as u32, bell);
+        }
         let task = Task::Port {
             peer: peer as u32,
             comes: row.comes,
@@ -163,7 +169,7 @@ fn add_workers<K: Listener + Drop, F: Drop, I: Drop, O: Drop, R: Wait + Clock + 
 {
     for index in 0..workers {
         let cache = Cache::new(alloc, CACHE_CAPACITY)?;
-        let bench = desk_beside(rt, desk)?;
+        let bench = WorkBench::new(desk_beside(rt, desk)?, index);
         push_task(
             tasks,
             Task::Work {
@@ -188,6 +194,7 @@ fn add_carrier<K: Listener + Drop, F: Drop, I: Drop, O: Drop, R: Wait + Clock + 
 {
     let links = ways_of(alloc, parts)?;
     let desk = desk_beside(rt, desk)?;
+    desk.tell_ways(alloc, links.as_slice())?;
     push_task(tasks, Task::Carry { links, desk })
 }
 

@@ -5,7 +5,7 @@ use crate::gates::OpenGate;
 use crate::tasks::Task;
 use crate::watching::watch_port;
 use dom_edge::{Listener, Sink, Source, Store};
-use server_loops::{Operated, Ran, Worked, carry_links, operate, serve_port, work};
+use server_loops::{Operated, Ran, Worked, carry_guided, operate, serve_port, work};
 use std::alloc::Global;
 use std::sync::Wait;
 use std::time::Clock;
@@ -37,13 +37,17 @@ impl<K: Listener, F: Store, I: Source, O: Sink, R: Wait + Clock + Drop> Task<K, 
                 desk,
             } => { TaskEnd::Ran(serve_port(alloc, desk, *peer, listener, turns)) }
             Task::Carry { links, desk } => {
-                TaskEnd::Ran(carry_links(desk, links.as_slice(), turns))
+                TaskEnd::Ran(carry_guided(desk, links.as_slice(), turns))
             }
             Task::Work {
                 index,
                 cache,
                 bench,
-            } => { TaskEnd::Worked(work(alloc, bench, &mut OpenGate::new(), cache, *index, turns)) }
+            } => {
+                let worked = work(alloc, bench, &mut OpenGate::new(), cache, *index, turns);
+                bench.let_go();
+                TaskEnd::Worked(worked)
+            }
             Task::Operate {
                 desk,
                 files,
