@@ -1,4 +1,4 @@
--- Causes, Streams, Stores, Heeding and Opening are what callers read; Memory and Links say what the forms in memory hold, Sockets what the real ones tell.
+-- Causes, Streams, Stores, Folders, Moments, Heeding and Opening are what callers read; Memory, Time and Links say what the forms in memory and of the system hold, Sockets what the real sockets tell.
 pub mod Causes
 pub mod Streams
 pub mod Whole
