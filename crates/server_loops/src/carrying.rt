@@ -60,11 +60,7 @@ pub fn carry_links<D: Desk>(desk: &mut D, links: &[(As, As)], turns: u64) -> Ran
 }
 
 // One Carry of a pair, for which the desk as a guide is asked, unless the desk is spent. Answers the pair's place.
-fn carry_next<D: Desk + Guide>(
-    desk: &mut D,
-    links: &[(As, As)],
-    last: usize,
-) -> Result<usize, u64>
+fn carry_next<D: Desk + Guide>(desk: &mut D, links: &[(As, As)], last: usize) -> Result<usize, u64>
     requires some { 0 < length links.now }
     ensures { IsCarriedOf links.now result (D.desked desk.old) (D.desked desk.new) }
 {

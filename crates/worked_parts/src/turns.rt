@@ -263,7 +263,10 @@ fn a_job_that_a_worker_is_at_is_no_other_s(rt: HostRuntime) -> Result<(), Fail> 
     let mut second = bench(rt, &mut desk, 1).ok_or("another")?;
     let mut third = bench(rt, &mut desk, 2).ok_or("a third")?;
     ask(alloc, &mut desk).ok_or("two requests")?;
-    assert_eq!(rt; (first.ready(0), second.ready(1)), (Some((AT, 1)), Some((AT, 2))));
+    assert_eq!(rt;
+        (first.ready(0), second.ready(1)),
+        (Some((AT, 1)), Some((AT, 2)))
+    );
     assert_eq!(rt; third.ready(0), None);
     assert!(rt; matches!(first.look(AT, 1), Ok(Some(_))));
     assert_eq!(rt; third.ready(0), None);

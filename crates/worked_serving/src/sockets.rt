@@ -43,7 +43,9 @@ fn free_ports(rt: HostRuntime) -> Result<[u16; 2], Fail> {
 fn settings(alloc: Global, ports: [u16; 2]) -> Result<Bytes, Fail> {
     let element = "[[element]]\nas = 1\nid = \"192.0.2.1\"\ntopology = \"one.txt\"\n";
     let (one, other) = (ports[0], ports[1]);
-    let text = format!(in alloc; "{element}[[peer]]\nname = \"c1\"\nas = 1\nclass = \"client\"\nport = {one}\n[[peer]]\nname = \"c2\"\nas = 1\nclass = \"client\"\nport = {other}\n")?;
+    let text = format!(in alloc;
+        "{element}[[peer]]\nname = \"c1\"\nas = 1\nclass = \"client\"\nport = {one}\n[[peer]]\nname = \"c2\"\nas = 1\nclass = \"client\"\nport = {other}\n"
+    )?;
     Ok(List::from_vec(text.as_bytes().to_vec(alloc)?))
 }
 
