@@ -35,7 +35,6 @@ impl<R: Wait + Clock> TurnDesk<R> {
     }
 
     /// Asks for the ready jobs, from the first on, until one is no other worker's; it is this worker's then.
-    #[tactic(auto, using(crate::proofs::Benching::none_asked, crate::proofs::Benching::one_asked, crate::proofs::Benching::one_found, crate::proofs::Benching::none_found))]
     pub(crate) fn find(&mut self, worker: usize) -> Option<(As, u64)>
         ensures { Finds result (stand_of self.old) (stand_of self.new) }
     {
