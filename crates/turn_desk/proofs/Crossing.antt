@@ -2,13 +2,12 @@
 use denote.RattleType.{RattleType}
 use denote.Param.Send.{IsSend, IsSync, sendable}
 use Rattle.std.proofs.Crossing.{Arc-send, crosses}
+use Rattle.core.proofs.once.OnceLock.TheSendSync as once
 use Rattle.dom_edge.specs.contracts.bell.Bell as Bell
 use Rattle.dom_edge.specs.contracts.chime.Chime as Chime
 use Rattle.plant_lock.proofs.Crossing.{turn_seat_field_send, turnstile_send, turnstile_sync}
 use Rattle.plant_network.proofs.Crossing.{plant_send}
 use Rattle.turn_desk.specs.contracts.bells.Bells as Bells
-use Rattle.turn_desk.specs.contracts.claims.Claims as Claims
-use Rattle.turn_desk.specs.contracts.rounds.Rounds as Rounds
 use Rattle.turn_desk.specs.contracts.desk.TurnDesk as TurnDesk
 use Rattle.turn_desk.specs.contracts.workbench.WorkBench as WorkBench
 
@@ -26,23 +25,11 @@ chime_send = search (sendable, crosses) depth 60 fits 30000
 chime_sync : IsSync Chime.the_row
 chime_sync = search (sendable, crosses) depth 60 fits 30000
 
-claims_send : IsSend Claims.the_row
-claims_send = search (sendable, crosses) depth 60 fits 30000
-
-claims_sync : IsSync Claims.the_row
-claims_sync = search (sendable, crosses) depth 60 fits 30000
-
-rounds_send : IsSend Rounds.the_row
-rounds_send = search (chime_send, sendable, crosses) depth 60 fits 30000
-
-rounds_sync : IsSync Rounds.the_row
-rounds_sync = search (chime_sync, chime_send, sendable, crosses) depth 60 fits 30000
-
 bells_send : IsSend Bells.the_row
-bells_send = search (bell_send, bell_sync, chime_send, chime_sync, claims_send, rounds_send, sendable, crosses) depth 60 fits 30000
+bells_send = search (once.the_send, bell_send, chime_send, sendable, crosses) depth 60 fits 30000
 
 bells_sync : IsSync Bells.the_row
-bells_sync = search (bell_send, bell_sync, chime_send, chime_sync, claims_sync, rounds_sync, sendable, crosses) depth 60 fits 30000
+bells_sync = search (once.the_sync, bell_send, bell_sync, chime_sync, sendable, crosses) depth 60 fits 30000
 
 -- ---- desks and benches
 

@@ -28,20 +28,29 @@ fn told(answer: Result<Outcome, Refusal<Done>>) -> Finished
     }
 }
 
+// The outside peer of the session that a desk opened last, behind this event.
+fn own_by(event: &Event, own: Option<u32>) -> Option<u32> {
+    match event {
+        Event::Open(peer, _holder) => Some(*peer),
+        _ => own,
+    }
+}
+
 impl<R: Wait + Clock> TurnDesk<R> {
     // Makes an event.
     pub(crate) fn make(&mut self, event: Event) -> Result<Outcome, DeskRefused>
         requires { desk.IsOwnLoad event }
         ensures { IsTurn (Do event) (did_by result) (stand_of self.old) (stand_of self.new) }
     {
-        if let Event::Open(peer, _holder) = &event {
-            self.own = Some(*peer);
-        }
+        self.own = own_by(&event, self.own);
         match self.turn(Act::Do(event)) {
-            Ok(acted) => match did_in(acted) {
-                Ok(outcome) => Ok(outcome),
-                Err(why) => Err(DeskRefused::Plant(why)),
-            },
+            Ok(acted) => {
+                let answer = did_in(acted);
+                match answer {
+                    Ok(outcome) => Ok(outcome),
+                    Err(why) => Err(DeskRefused::Plant(why)),
+                }
+            }
             Err(number) => Err(DeskRefused::Spent(number)),
         }
     }

@@ -12,7 +12,7 @@ use crate::desk::TurnDesk;
 use dom_base::{As, NoMemory};
 use dom_edge::Bell;
 use plant_lock::{Spent, SplitError, TurnSeat, Turnstile};
-use plant_network::{Act, Acted, Plant};
+use plant_network::{Act, Acted, Plant, Stirred};
 use std::alloc::Global;
 use std::sync::{Arc, Wait};
 use std::time::Clock;
@@ -61,6 +61,13 @@ impl<R: Wait + Clock> TurnDesk<R> {
         }
     }
 
+    // Rings whom a turn of this desk stirred.
+    fn ring(&self, stirred: &Stirred) {
+        if let Some(bells) = &self.bells {
+            bells.ring(stirred, self.own);
+        }
+    }
+
     // One turn with this act, or the number at which the desk was spent.
     pub(crate) fn turn(&mut self, act: Act) -> Result<Acted, u64>
         requires { MayDo self.old.seat act }
@@ -71,9 +78,7 @@ impl<R: Wait + Clock> TurnDesk<R> {
         }
         match self.lock.turn(&self.rt, &mut self.seat, act) {
             Ok((_place, turn)) => {
-                if let Some(bells) = &self.bells {
-                    bells.ring(&turn.stirred, self.own);
-                }
+                self.ring(&turn.stirred);
                 Ok(turn.acted)
             }
             Err(Spent(number)) => {
