@@ -101,6 +101,7 @@ fn a_byte_a_bell_and_an_end_end_a_wait(rt: HostRuntime) -> Result<(), Fail> {
     let Accepted::Link(mut link) = accept(&mut listener) else {
         return Err(Fail::from("nobody came"));
     };
+    assert!(rt; link.came_from() == Some(FIRST));
     bell.ring();
     assert_eq!(rt; get(&mut link), b'q');
     let Ok(disturbs) = thread::spawn(&rt, move || disturb(rt, stream, other)) else {
