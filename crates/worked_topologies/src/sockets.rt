@@ -260,10 +260,10 @@ fn a_write_tells_what_was_taken_and_ends(rt: HostRuntime) -> Result<(), Fail> {
         return Err(Fail::from("nobody came"));
     };
     let piece = vec![in rt.alloc(); 7u8; 60_000]?;
-    let mut taken = 0;
+    let mut taken = 0usize;
     for _write in 0..10_000u32 {
         match put(&mut link, &piece) {
-            Put::Bytes(count) => taken += count,
+            Put::Bytes(count) => taken = taken.saturating_add(count),
             Put::Failed => break,
         }
     }
