@@ -321,7 +321,7 @@ class Lab:
     def are_ready(self):
         return all("pce: ready" in host.told.all for host in self.hosts.values())
 
-    def wait(self, comes, otherwise, within=30):
+    def wait(self, comes, otherwise, within=60):
         """The seconds until something has come about."""
         began = time.monotonic()
         while not comes():
