@@ -1,9 +1,14 @@
 //! The topology of one domain, by its rows in order.
 ghost use Rattle.std.specs.Prelude.{◌≡◌, ◌↔◌, ◌<◌, ◌^◌, ℕ, [], vec_len, length, slice_get, Contains, Some, MatchOption};
 ghost use Rattle.te_links.specs.Rows.{IsTopology, IsInOrder};
-ghost use Rattle.te_links.specs.Index.{IsIndex, IsLinksInto, IsIndexFrom, IsLinksFrom, IsLinkAt, AreTails, AreHeads, LinkBeginsAt, LinkEndsAt};
+ghost use Rattle.te_links.specs.Index.{IsLinksInto, IsLinksFrom, IsLinkAt, LinkBeginsAt, LinkEndsAt};
+ghost use Rattle.te_links.specs.Arrivals.{AreArrivals};
+ghost use Rattle.te_links.specs.Indexed.{IsIndex};
 
-use crate::index::{Ends, place_of, place_of_far};
+use crate::arrivals::Arrivals;
+use crate::groups::part;
+use crate::index::{Index, place_of_node};
+use crate::places::{Hints, place_near, place_of_far};
 use crate::rows::{Entry, OutLink};
 use dom_base::{Addr, As, Link};
 use std::alloc::Global;
@@ -18,9 +23,8 @@ pub struct Topology {
     links: Vec<Link>,
     outs: Vec<OutLink>,
     entries: Vec<Entry>,
-    into: Vec<Vec<u32>>,
-    leaving: Vec<Vec<u32>>,
-    ends: Ends,
+    hints: Hints,
+    index: Index,
 }
 
 // Written, so that it is proved once: a derived one is proved anew in each crate that drops a value.
@@ -32,9 +36,8 @@ impl Drop for Topology {
             links: _,
             outs: _,
             entries: _,
-            into: _,
-            leaving: _,
-            ends: _,
+            hints: _,
+            index: _,
         } = self;
     }
 }
@@ -58,17 +61,13 @@ impl Topology {
         links: Vec<Link>,
         outs: Vec<OutLink>,
         entries: Vec<Entry>,
-        into: Vec<Vec<u32>>,
-        leaving: Vec<Vec<u32>>,
-        ends: Ends,
+        hints: Hints,
+        index: Index,
     ) -> Topology
         requires rules { IsTopology (record { own = own; nodes = nodes.items; links = links.items; outs = outs.items; entries = entries.items }) }
         requires order { IsInOrder (record { own = own; nodes = nodes.items; links = links.items; outs = outs.items; entries = entries.items }) }
         requires short { vec_len entries < 2 ^ 32 }
-        requires index { IsIndex nodes.items links.items into.items }
-        requires leaving { IsIndexFrom nodes.items links.items leaving.items }
-        requires tails { AreTails nodes.items links.items ends.tails.items }
-        requires heads { AreHeads nodes.items links.items ends.heads.items }
+        requires index { IsIndex nodes.items links.items index }
         ensures { result ≡ record { own = own; nodes = nodes.items; links = links.items; outs = outs.items; entries = entries.items } }
     {
         Topology {
@@ -77,9 +76,8 @@ impl Topology {
             links,
             outs,
             entries,
-            into,
-            leaving,
-            ends,
+            hints,
+            index,
         }
     }
 
@@ -97,9 +95,8 @@ impl Topology {
             links: Vec::new(alloc),
             outs: Vec::new(alloc),
             entries: Vec::new(alloc),
-            into: Vec::new(alloc),
-            leaving: Vec::new(alloc),
-            ends: Ends::none(alloc),
+            hints: Hints::none(alloc),
+            index: Index::none(alloc),
         }
     }
 
@@ -169,7 +166,7 @@ impl Topology {
         requires { i < length self.now.links }
         ensures { LinkBeginsAt self.now.nodes self.now.links result i }
     {
-        self.ends.tails[i as usize]
+        place_of_node(&self.nodes, &self.hints, self.links[i as usize].from)
     }
 
     /// The place of the node that a link ends at.
@@ -177,7 +174,7 @@ impl Topology {
         requires { i < length self.now.links }
         ensures { LinkEndsAt self.now.nodes self.now.links result i }
     {
-        self.ends.heads[i as usize]
+        self.index.heads[i as usize]
     }
 
     /// The link of that place that leaves the domain.
@@ -200,7 +197,7 @@ impl Topology {
     pub fn find_node(&self, addr: Addr) -> Option<u32>
         ensures { MatchOption result (¬ Contains self.now.nodes addr) (λ i. slice_get self.now.nodes i ≡ Some addr) }
     {
-        let place = place_of(&self.nodes, addr)?;
+        let place = place_near(&self.nodes, &self.hints, addr)?;
         Some(place as u32)
     }
 
@@ -220,8 +217,7 @@ impl Topology {
         requires { node < length self.now.nodes }
         ensures { IsLinksInto self.now.nodes self.now.links node result.now }
     {
-        let places = &self.into[node as usize];
-        places.as_slice()
+        self.index.into.at(&self.nodes, node)
     }
 
     /// The places of the links that begin at a node, in the order of their far addresses.
@@ -231,7 +227,17 @@ impl Topology {
         ensures rules { IsTopology self.now }
         ensures order { IsInOrder self.now }
     {
-        let places = &self.leaving[node as usize];
-        places.as_slice()
+        self.index.from.at(&self.nodes, node)
+    }
+
+    /// The links that end at a node, with their arcs.
+    pub(crate) fn arrivals(&self, node: u32) -> Arrivals<'_>
+        requires { node < length self.now.nodes }
+        ensures { AreArrivals self.now node result }
+    {
+        let (start, end) = self.index.into.bounds(node);
+        let arcs = part(&self.index.arcs, start, end);
+        let places = self.index.into.at(&self.nodes, node);
+        Arrivals::of(&self.links, places, arcs)
     }
 }

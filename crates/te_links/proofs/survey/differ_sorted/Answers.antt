@@ -5,7 +5,7 @@ use Rattle.dom_base.specs.AddrOrder.{rank}
 use Rattle.dom_base.specs.declared.addr.Addr.{Addr}
 use Rattle.te_links.proofs.Moved.{permuted_differ, strictly}
 use Rattle.te_links.proofs.Different.{risen_differ}
-use Rattle.te_links.proofs.survey.all_differ.Goals as goal
+use Rattle.te_links.proofs.survey.differ_sorted.Goals as goal
 
 pub returns : goal.returns
 returns c =
