@@ -1,13 +1,31 @@
 -- The turns of a carrier that has a guide.
-use Rattle.std.proofs.Common.{◌≡◌, ◌<◌, ◌≤◌, ◌+◌, ℕ, List, [], ◌∷◌, ◌++◌, Ok, Err, length, length-append, append-nil, arith, refl, sym, ◌∙◌, ap}
+use Rattle.std.proofs.Common.{◌≡◌, ◌<◌, ◌≤◌, ◌+◌, ℕ, List, [], ◌∷◌, ◌++◌, Ok, Err, get_or, length, length-append, append-nil, arith, refl, sym, ◌∙◌, ap}
+use Rattle.std.specs.Prelude.{Contains}
 use Rattle.std.specs.List.{AllByRecursion}
+use Rattle.std.proofs.lemmas.List.Elements.{Contains-get_or}
 use Rattle.dom_base.specs.declared.names.As.{As}
-use Rattle.server_loops.specs.Desks.{Call, Desked}
+use Rattle.plant_model.specs.declared.event.Event.TheVariants.{Carry}
+use Rattle.server_loops.specs.Desks.{Answer, Call, Desked, Goes, call}
+use Rattle.server_loops.specs.declared.desks.DeskRefused.TheVariants as desk
 use Rattle.server_loops.specs.Serving.{CarriesGuided, IsCarryCount, IsCarryOf, IsTurnCount}
-use Rattle.server_loops.specs.Steps.{IsCarriedOf}
+use Rattle.server_loops.specs.Steps.{IsCarriedOf, carried_at}
 use Rattle.server_loops.specs.declared.port.Ran.{Ran}
 use Rattle.server_loops.specs.declared.port.Ran.TheVariants.{Turns, Spent}
 use Rattle.server_loops.proofs.Turning.{on, all_on}
+
+-- ---- one turn
+
+carried_of : (links : List (As × As)) (place : ℕ) (pair : As × As) (answer : Answer) (old new : Desked) → Contains links pair → Goes old new (Carry pair.0 pair.1) answer → IsCarriedOf links (carried_at place answer) old new
+carried_of links place pair (Ok o) old new there goes = (call (Carry pair.0 pair.1) (Ok o), (pair, there, refl), goes.calls)
+carried_of links place pair (Err (desk.Plant why)) old new there goes = (call (Carry pair.0 pair.1) (Err (desk.Plant why)), (pair, there, refl), goes.calls)
+carried_of links place pair (Err (desk.Spent t)) old new there goes = (goes.calls ∙ append-nil old.calls, goes.spent)
+
+-- the pair at a place
+pub carried_there : (links : List (As × As)) (place : ℕ) (none : As × As) (answer : Answer) (old new : Desked) → place < length links →
+    Goes old new (Carry (get_or links place none).0 (get_or links place none).1) answer → IsCarriedOf links (carried_at place answer) old new
+carried_there links place none answer old new below goes = carried_of links place (get_or links place none) answer old new (Contains-get_or links place none below) goes
+
+-- ---- all turns
 
 -- so many turns so far
 pub record IsGuided (links : List (As × As)) (n : ℕ) (old new : Desked) : Type 0 where

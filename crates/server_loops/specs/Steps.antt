@@ -150,6 +150,12 @@ pub record IsRound (links : List (As × As)) (result : Result (Unit {0}) ℕ) (o
   pub calls : new.calls ≡ old.calls ++ made
   pub rounds : Rounds links result made new
 
+-- the place, unless the desk is spent
+abbrev pub carried_at : ℕ → Answer → Result ℕ ℕ
+carried_at place (Ok o) = Ok place
+carried_at place (Err (desk.Plant why)) = Ok place
+carried_at place (Err (desk.Spent t)) = Err t
+
 -- one Carry of one of these pairs
 abbrev pub IsCarriedOf : List (As × As) → Result ℕ ℕ → Desked → Desked → Type 0
 IsCarriedOf links (Ok place) old new = (c : Call) × IsCarryOf links c × (new.calls ≡ old.calls ++ c ∷ [])
