@@ -124,6 +124,13 @@ fn push_task<K: Listener + Drop, F: Drop, I: Drop, O: Drop, R: Wait + Clock + Dr
     }
 }
 
+// What wakes the thread that waits at that listener is hung on the board.
+fn hang_bell<K: Listener, R: Wait + Clock>(desk: &TurnDesk<R>, peer: u32, listener: &K) {
+    if let Some(bell) = listener.bell() {
+        desk.hang(peer, bell);
+    }
+}
+
 // A task for each peer, in order: at its port, or one that dials it.
 #[tactic(auto, using(crate::proofs::Starts::plan_end, crate::proofs::Starts::want_plan))]
 fn add_ports<Q: Ports, F: Drop, I: Drop, O: Drop, R: Wait + Clock + Copy + Drop>(
@@ -143,9 +150,7 @@ fn add_ports<Q: Ports, F: Drop, I: Drop, O: Drop, R: Wait + Clock + Copy + Drop>
         let row = &peers[peer];
         let listener = open_port(ports, row.port, row.comes)?;
         let desk = desk_beside(rt, desk)?;
-        if let Some(bell) = listener.bell() {
-            desk.hang(peer as u32, bell);
-        }
+        hang_bell(&desk, peer as u32, &listener);
         let task = Task::Port {
             peer: peer as u32,
             comes: row.comes,
