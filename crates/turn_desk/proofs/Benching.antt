@@ -2,13 +2,10 @@
 use Rattle.std.proofs.Common.{◌≡◌, ◌∙◌, ℕ, List, [], ◌∷◌, ◌++◌, ap, sym, refl, subst, append-nil, append_assoc, Option, Some, None, Ok, Err}
 use Rattle.std.specs.Prelude.{Contains, IfOk, IfSome, Result}
 use Rattle.std.specs.List.{AllByRecursion}
-use Rattle.std.proofs.lemmas.List.{map-append}
 use Rattle.std.proofs.lemmas.List.Elements.{filter_map-append}
 use Rattle.plant_network.specs.plant_model.Types.{As, NoMemory}
-use Rattle.te_links.specs.Rows.{Rows}
 use Rattle.plant_network.specs.declared.acts.Act.{Act}
 use Rattle.plant_network.specs.declared.acts.Act.TheVariants.{Ready}
-use Rattle.plant_network.specs.declared.acts.Acted.{Acted}
 use Rattle.plant_network.specs.declared.acts.Acted.TheVariants.{Found}
 use Rattle.plant_network.specs.declared.acts.ActAnswer.{ActAnswer}
 use Rattle.plant_network.specs.pce_parent.declared.work.Done.{Done}
@@ -18,7 +15,7 @@ use Rattle.server_loops.specs.Benches as bench
 use Rattle.server_loops.specs.Benches.{Call}
 use Rattle.server_loops.proofs.Turning.{all_on}
 use Rattle.turn_desk.specs.Desks.{IsOneTurn, IsTurnBy, Stand, benched_of}
-use Rattle.turn_desk.specs.Works.{AreAsked, AreDone, Finds, FoundLast, IsAnswer, IsQuestion, noted_call, noted_calls, work_call, worked_of, works}
+use Rattle.turn_desk.specs.Works.{AreAsked, AreDone, Finds, IsAnswer, IsQuestion, noted_calls, work_call, worked_of, works}
 use Rattle.turn_desk.specs.declared.notes.Note.{Note}
 use Rattle.turn_desk.proofs.Found.{picked_from, picked_in}
 use Rattle.turn_desk.proofs.Turning.{none_spent}

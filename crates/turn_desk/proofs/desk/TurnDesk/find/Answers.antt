@@ -1,4 +1,4 @@
-use Rattle.std.proofs.Common.{◌≡◌, ℕ, Option, subst}
+use Rattle.std.proofs.Common.{ℕ, Option, subst}
 use Rattle.dom_base.specs.declared.names.As.{As}
 use Rattle.turn_desk.specs.Desks.{stand_of}
 use Rattle.turn_desk.specs.Works.{Finds}
