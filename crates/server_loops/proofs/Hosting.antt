@@ -9,7 +9,7 @@ use Rattle.dom_edge.specs.declared.listener.Accepted.TheVariants as accepted
 use Rattle.server_loops.specs.Desks.{Call, Desked}
 use Rattle.dom_edge.specs.Heeding.{HandsOut, Sides}
 use Rattle.server_loops.specs.Sessions.{Serves, joined}
-use Rattle.server_loops.specs.Serving.{Heard, heard, IsHost, Hosts, links_of, calls_of, sessions_made, ServesPort}
+use Rattle.server_loops.specs.Serving.{Heard, IsHost, Hosts, links_of, calls_of, sessions_made, ServesPort}
 use Rattle.server_loops.specs.Steps.{IsHosted}
 use Rattle.server_loops.specs.declared.sessions.Ended.{Ended}
 use Rattle.server_loops.specs.declared.port.Ran.TheVariants.{Turns, Spent}

@@ -1,5 +1,5 @@
 -- The parts of a turn.
-use Rattle.std.proofs.Common.{◌≡◌, inl, inr, ◌<◌, ◌≤◌, ◌+◌, ℕ, List, [], ◌∷◌, ◌++◌, None, Ok, Err, length, length-append, take, append_assoc, append-nil, arith, refl, sym, ◌∙◌, ap, subst, false, Bool, true}
+use Rattle.std.proofs.Common.{◌≡◌, inl, inr, ◌<◌, ◌+◌, ℕ, List, [], ◌∷◌, ◌++◌, None, Ok, Err, length, length-append, take, append_assoc, append-nil, arith, refl, sym, ◌∙◌, ap, subst, false, Bool, true}
 use Rattle.std.specs.List.{AllByRecursion}
 use Rattle.std.specs.declared.result.Result.{Result}
 use Rattle.dom_edge.specs.Streams.{Reading, Writing, IsRead}

@@ -1,4 +1,4 @@
-use Rattle.std.proofs.Common.{◌≡◌, ℕ, subst, sym}
+use Rattle.std.proofs.Common.{ℕ, subst, sym}
 use Rattle.std.specs.declared.result.Result.{Result}
 use Rattle.dom_base.specs.declared.names.As.{As}
 use Rattle.server_loops.specs.Steps.{IsCarriedOf, carried_at}

@@ -1,4 +1,4 @@
-use Rattle.std.proofs.Common.{◌≡◌, ◌≤◌, length, take, [], ◌++◌, Ok, Err, refl, arith, subst, sym, ap, ◌∙◌, append-nil}
+use Rattle.std.proofs.Common.{◌≡◌, length, take, [], ◌++◌, Ok, Err, refl, arith, subst, sym, ap, ◌∙◌, append-nil}
 use Rattle.std.proofs.lemmas.Result.{err_from_is_err_and}
 use Rattle.dom_edge.specs.Streams.{Writing}
 use Rattle.dom_edge.specs.declared.stream.Got.TheVariants as got
