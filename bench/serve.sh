@@ -1,8 +1,8 @@
 #!/bin/sh
 # What a running server does, as its clients see it, beside a plain threaded server in C (bench/plain/serve.c) that searches the same topologies:
-# the time from a request to its reply for one client that asks one at a time; requests a second by sessions and by workers, four requests of each
-# session under way at a time, with the processor time of an answer; memory with 256 sessions; and how long the processor is busy while 256
-# sessions of 16 elements are silent.
+# the time from a request to its reply for one client that asks one at a time, with the processor time of an answer in the busiest thread (where
+# searches take most of it, that is the search); requests a second by sessions and by workers, four requests of each session under way at a time,
+# with the processor time of an answer; memory with 256 sessions; and how long the processor is busy while 256 sessions of 16 elements are silent.
 # The networks: one domain of 3 nodes; one at the limits, 1,024 nodes and 8,192 links, between drawn nodes (so most searches are new to the caches),
 # and to one of 16 nodes (so most are not); and three domains in a row, of 1 to 3 nodes each, and each at the limits with 16 links to the next. A key
 # lives for one second there, since an element has 8,192 of them. Clients (bench/plain/load.c) and server share the machine. It needs Python
@@ -127,13 +127,20 @@ def load(first, sessions, window, network, count=0, during=seconds):
     return {word: float(value) for word, value in zip(words[::2], words[1::2])}
 
 
-def loaded(server, sessions, network):
-    """What a load comes to, and how long the server's threads were busy."""
+def loaded(server, sessions, network, window=WINDOW, count=0, during=seconds):
+    """What a load comes to, and how long the server's threads were busy: all together, and the busiest of them."""
     before = servers.Server.threads(server)
-    told = load(server.first, sessions, WINDOW, network)
+    told = load(server.first, sessions, window, network, count, during)
     if told:
-        told["busy"] = sum(busy - before.get(thread, (0, 0))[0] for thread, (busy, _) in servers.Server.threads(server).items())
+        each = [busy - before.get(thread, (0, 0))[0] for thread, (busy, _) in servers.Server.threads(server).items()]
+        told["busy"], told["busiest"] = sum(each), max(each)
     return told
+
+
+def alone(told):
+    if not told or not told["answers"]:
+        return "failed"
+    return "%.3f, %.3f; %.3f" % (told["median"] / 1000, told["p99"] / 1000, 1000 * told["busiest"] / told["answers"])
 
 
 def rate(told):
@@ -147,11 +154,11 @@ def times(network):
     """One client, one request at a time."""
     row = []
     with Plain(network, 1) as plain:
-        row.append(load(plain.first, 1, 1, network, 100, 60))
+        row.append(loaded(plain, 1, network, 1, 100, 60))
     for workers in WORKERS:
         with Proved(network, 1, workers) as proved:
-            row.append(load(proved.first, 1, 1, network, 100, 60))
-    print("| %s | %s |" % (network.name, " | ".join("%.2f, %.2f" % (told["median"] / 1000, told["p99"] / 1000) if told else "failed" for told in row)), flush=True)
+            row.append(loaded(proved, 1, network, 1, 100, 60))
+    print("| %s | %s |" % (network.name, " | ".join(map(alone, row))), flush=True)
 
 
 def rates(network):
@@ -174,7 +181,7 @@ def heading(*words):
 
 known = networks()
 if "times" in parts:
-    heading("One at a time: median, 99th of 100, in ms", "plain", *("%d workers" % workers for workers in WORKERS))
+    heading("One at a time: median, 99th of 100; busiest thread an answer, in ms", "plain", *("%d workers" % workers for workers in WORKERS))
     for network in known:
         times(network)
 if "rates" in parts:
@@ -196,7 +203,7 @@ if "idle" in parts:
             before, began = proved.busy(), time.monotonic()
             time.sleep(20)
             share = (proved.busy() - before) / (time.monotonic() - began)
-            print("idle, 16 elements, 2 workers, %d silent sessions: %.1f in 100 of one processor" % (sessions, 100 * share), flush=True)
+            print("idle, 16 elements, 2 workers, %d silent sessions: %.2f in 100 of one processor" % (sessions, 100 * share), flush=True)
             if held:
                 held.kill()
                 held.wait()

@@ -3,6 +3,7 @@
 
 usage: tools/ask.py HOST PORT SRC DST [AS ..]     a path from SRC to DST through these domains in their order, the element's own first
        tools/ask.py HOST PORT key NUMBER ADDR     what stands behind the path key of this number of the element at ADDR
+       --from ADDR                                the address of this machine from which it connects; that of the route, where left out
        --within SECONDS                           how long each answer may take; 10, where left out
        --octets                                   the reply in hexadecimal, in place of words
 
@@ -63,6 +64,7 @@ def read_words():
     says.add_argument("source", help=argparse.SUPPRESS)
     says.add_argument("target", help=argparse.SUPPRESS)
     says.add_argument("domains", nargs="*", help=argparse.SUPPRESS)
+    says.add_argument("--from", dest="origin", help=argparse.SUPPRESS)
     says.add_argument("--within", type=float, default=10, help=argparse.SUPPRESS)
     says.add_argument("--octets", action="store_true", help=argparse.SUPPRESS)
     return says.parse_args()
@@ -80,7 +82,7 @@ def main():
     except ValueError as fault:
         stop(2, fault)
     try:
-        with sessions.Session(given.host, port, given.within) as session:
+        with sessions.Session(given.host, port, given.within, given.origin) as session:
             reply = session.begin().ask(request)
             session.send(CLOSE)
     except (sessions.Silent, sessions.Ended, OSError) as fault:

@@ -79,13 +79,13 @@ class Lines:
 
 
 class Server:
-    """A running `serve`. Its settings and their files stand in a folder of its own."""
+    """A running `serve`, which listens at this address. Its settings and their files stand in a folder of its own."""
 
-    def __init__(self, program, settings, files=(), given=subprocess.PIPE, within=30):
+    def __init__(self, program, settings, files=(), given=subprocess.PIPE, within=30, host=HOST):
         self.folder = tempfile.TemporaryDirectory()
         for name, text in [("net.toml", settings), *files]:
             self.put(name, text)
-        self.program, self.given, self.within = program, given, within
+        self.program, self.given, self.within, self.host = program, given, within, host
         self.process = None
         self.start()
 
@@ -96,7 +96,7 @@ class Server:
     def start(self):
         """Starts, and waits until it is ready."""
         self.process = subprocess.Popen([self.program, "serve", os.path.join(self.folder.name, "net.toml")], stdin=self.given, stdout=subprocess.PIPE,
-                                        stderr=subprocess.PIPE, env=listen_address(), preexec_fn=bound_to_parent)
+                                        stderr=subprocess.PIPE, env=listen_address(self.host), preexec_fn=bound_to_parent)
         self.out, self.told = Lines(self.process.stdout), Lines(self.process.stderr)
         until = time.monotonic() + self.within
         while (line := self.told.next(until - time.monotonic() if until > time.monotonic() else 0)) != "pce: ready":
@@ -175,11 +175,13 @@ def rows(table, *given):
 
 
 def in_a_row(count, peers, topologies=(), top="", **more):
-    """Settings of elements 1 to count, each linked to the next; peers are (name, domain, class, port), a neighbour's class with its domain."""
+    """Settings of elements 1 to count, each linked to the next; peers are (name, domain, class, port), a neighbour's class with its domain,
+    and where there are more keys of a row, these."""
     elements = [dict({"as": at, "id": "192.0.2.%d" % at}, **({"topology": topologies[at - 1]} if at <= len(topologies) else {}), **more)
                 for at in range(1, count + 1)]
     outside = []
-    for name, at, kind, port in peers:
+    for name, at, kind, port, *keys in peers:
         word, _, neighbour = kind.partition(" ")
-        outside.append(dict({"name": name, "as": at, "class": word, "port": port}, **({"neighbour": int(neighbour)} if neighbour else {})))
+        outside.append(dict({"name": name, "as": at, "class": word, "port": port}, **({"neighbour": int(neighbour)} if neighbour else {}),
+                            **(keys[0] if keys else {})))
     return top + rows("element", *elements) + rows("link", *({"a": at, "b": at + 1} for at in range(1, count))) + rows("peer", *outside)

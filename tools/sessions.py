@@ -14,14 +14,15 @@ class Ended(Exception):
 
 
 class Session:
-    """A connection to a port of an element. All that is heard is kept in `heard`, message by message."""
+    """A connection to a port of an element, from an address of this machine where one is given. All that is heard is kept in `heard`,
+    message by message."""
 
-    def __init__(self, host, port, within=30):
+    def __init__(self, host, port, within=30, source=None):
         self.within = within
         self.stream = messages.Stream()
         self.waiting = []  # messages that came and were not asked for yet
         self.heard = []
-        self.socket = socket.create_connection((host, port), timeout=within)
+        self.socket = socket.create_connection((host, port), timeout=within, source_address=source and (source, 0))
         self.socket.setsockopt(socket.IPPROTO_TCP, socket.TCP_NODELAY, 1)
 
     def __enter__(self):

@@ -1,8 +1,9 @@
 """Reads transcripts of `play` and `blind`, for the programs of this folder.
 
 A transcript alone has what elements and the parent say. What outside peers say stands in its script: with that, a message of theirs comes where
-its `take` is told, or at the end of its line where nothing takes it. A peer's octets count from its `open` on, and only of feeds that are
-answered `ok`; `blind` answers none, so of its transcripts only what elements and the parent say is known."""
+its `take` is told, at a line `take` of its own, or at the end of the line of a `feed` where nothing takes it. A peer's octets count from its
+`open` on, and only of lines `feed` and `receive` that are answered `ok`; `blind` answers none, so of its transcripts only what elements and the
+parent say is known."""
 import itertools
 import re
 from collections import namedtuple
@@ -59,17 +60,17 @@ class Feeds:
         return self.script[number - 1] if number <= len(self.script) else []
 
     def begin(self, number, texts):
-        """A line of the script, before what the transcript tells of it; gives the peer that it feeds."""
+        """A line of the script, before what the transcript tells of it; gives the peer of which all is taken at its end, and the one of which
+        one message is."""
         words = self.words(number)
         if not words or not any(re.match("ok( |$)", text) for text in texts):
-            return None
+            return None, None
         if words[0] == "open" and len(words) == 3:
-            self.streams[words[1]] = Stream()
-        if words[0] != "feed" or len(words) != 3:
-            return None
-        stream = self.streams.setdefault(words[1], Stream())
-        self.waiting[words[1]] = stream.feed(bytes.fromhex(words[2]))
-        return words[1]
+            self.streams[words[1]], self.waiting[words[1]] = Stream(), []
+        if words[0] in ("feed", "receive") and len(words) == 3:
+            stream = self.streams.setdefault(words[1], Stream())
+            self.waiting.setdefault(words[1], []).extend(stream.feed(bytes.fromhex(words[2])))
+        return words[1] if words[0] == "feed" else None, words[1] if words[0] == "take" else None
 
     def take(self, peer):
         """The next message of a peer, or none."""
@@ -83,7 +84,10 @@ def with_feeds(lines, script, element_of):
     found = []
     for number, group in itertools.groupby(lines, key=lambda line: line[0]):
         texts = [text for _, text in group]
-        fed = feeds.begin(number, texts)
+        fed, taker = feeds.begin(number, texts)
+        one = feeds.take(taker) if taker else None
+        if one:
+            found.append(Line(number, None, taker, element_of(taker), one))
         for text in texts:
             taken = feeds.take(fed) if fed and text == "take " + fed else None
             if taken:

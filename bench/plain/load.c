@@ -2,7 +2,7 @@
 // usage: load PORT SESSIONS WINDOW SECONDS COUNT SOURCE HOW-MANY TARGET HOW-MANY [AS ..]
 // Each session has WINDOW requests under way at a time (0: it opens and is silent), until SECONDS have gone or COUNT answers came (0: no such
 // end). Ends are drawn among HOW-MANY addresses from SOURCE and from TARGET on. One line is told:
-//   answers N paths P seconds S rate R median M p99 Q worst W     (times of one request in microseconds)
+//   answers N paths P seconds S rate R median M p99 Q worst W gap G     (times of one request, and the longest without an answer, in microseconds)
 #include <arpa/inet.h>
 #include <errno.h>
 #include <fcntl.h>
@@ -21,7 +21,7 @@ enum { MOST = 256, ROOM = 1 << 17, WINDOWS = 1024, TIMES = 1 << 22 };
 struct session { int link; uint32_t ident, under_way; size_t held; uint64_t began[WINDOWS]; uint8_t in[ROOM]; };
 static struct session sessions[MOST];
 static uint32_t times[TIMES];
-static uint64_t answers, paths, drawn = 1;
+static uint64_t answers, paths, drawn = 1, last, gap;
 static uint32_t source, sources, target, targets, window;
 static uint16_t domains[16];
 static int domain_count;
@@ -59,13 +59,19 @@ static void ask(struct session *s) {
         if (count > 0) sent += count; else if (errno != EAGAIN) fail("send");
     }
 }
+// Notes how long there was no answer.
+static void note_gap(uint64_t at) {
+    if (at - last > gap) gap = at - last;
+    last = at;
+}
 // Takes a message in; whether it is an answer.
 static int take(struct session *s, const uint8_t *frame, size_t length) {
     if (frame[1] == 1 || frame[1] == 2) return 0;
     uint32_t ident;
     if (frame[1] == 7 || length < 20) { fprintf(stderr, "load: the session ends\n"); exit(1); }
     memcpy(&ident, frame + 12, 4);
-    uint64_t took = now() - s->began[ntohl(ident) % WINDOWS];
+    uint64_t at = now(), took = at - s->began[ntohl(ident) % WINDOWS];
+    note_gap(at);
     if (answers < TIMES) times[answers] = (uint32_t)took;
     answers++;
     paths += frame[1] == 4 && length > 16 && frame[16] == 7;
@@ -116,6 +122,7 @@ int main(int count, char **words) {
     struct pollfd polled[MOST];
     for (int i = 0; i < many; i++) begin(&sessions[i], port + i), polled[i] = (struct pollfd){sessions[i].link, POLLIN, 0};
     uint64_t start = now(), end = start + (uint64_t)(atof(words[4]) * 1e6);
+    last = start;
     for (int i = 0; i < many && window; i++) ask(&sessions[i]);
     while (now() < end && (!most || answers < most)) {
         int ready = poll(polled, many, 100);
@@ -125,9 +132,10 @@ int main(int count, char **words) {
             if (hear(&sessions[i]) && window) ask(&sessions[i]);
         }
     }
+    note_gap(now());
     double took = (now() - start) / 1e6;
     uint64_t kept = answers < TIMES ? answers : TIMES;
     qsort(times, kept, sizeof *times, by_time);
-    printf("answers %llu paths %llu seconds %.2f rate %.0f median %u p99 %u worst %u\n", (unsigned long long)answers, (unsigned long long)paths, took,
-           answers / took, kept ? times[kept / 2] : 0, kept ? times[kept * 99 / 100] : 0, kept ? times[kept - 1] : 0);
+    printf("answers %llu paths %llu seconds %.2f rate %.0f median %u p99 %u worst %u gap %llu\n", (unsigned long long)answers, (unsigned long long)paths,
+           took, answers / took, kept ? times[kept / 2] : 0, kept ? times[kept * 99 / 100] : 0, kept ? times[kept - 1] : 0, (unsigned long long)gap);
 }

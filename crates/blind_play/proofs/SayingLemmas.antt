@@ -67,6 +67,14 @@ module _ (n : NetworkParts) where
   shut_given None s ts end p = none_follows s ts end p
   shut_given (Some i) s ts end p = one_follows (blind.Shut i) s ts end tt p
 
+  receive_given : (peer : Option ℕ) (bytes : Bytes) (s : BlindState) (ts : List Turn) (end : BlindState) → Plays (line.Receive peer bytes) n s ts end → Follow s ts end
+  receive_given None bytes s ts end p = none_follows s ts end p
+  receive_given (Some i) bytes s ts end p = one_follows (blind.Feed i bytes) s ts end tt p
+
+  take_line_given : (peer : Option ℕ) (s : BlindState) (ts : List Turn) (end : BlindState) → Plays (line.Take peer) n s ts end → Follow s ts end
+  take_line_given None s ts end p = none_follows s ts end p
+  take_line_given (Some i) s ts end p = one_follows (blind.Take i) s ts end tt p
+
   drain_given : (peer : Option ℕ) (holder : ℕ) (s : BlindState) (ts : List Turn) (end : BlindState) → Plays (line.Drain peer holder) n s ts end → Follow s ts end
   drain_given None holder s ts end p = none_follows s ts end p
   drain_given (Some i) holder s ts end p = one_follows (blind.Drain i holder) s ts end tt p
@@ -77,6 +85,8 @@ module _ (n : NetworkParts) where
   line_follows (line.Open peer holder) s ts end given p = open_given peer holder s ts end p
   line_follows (line.Shut peer) s ts end given p = shut_given peer s ts end p
   line_follows (line.Feed peer bytes) s ts end given p = feed_at_follows peer bytes s ts end p
+  line_follows (line.Receive peer bytes) s ts end given p = receive_given peer bytes s ts end p
+  line_follows (line.Take peer) s ts end given p = take_line_given peer s ts end p
   line_follows (line.Carry a b) s ts end given p = one_follows (blind.Carry a b) s ts end tt p
   line_follows (line.Break a b) s ts end given p = one_follows (blind.Break a b) s ts end tt p
   line_follows (line.Solve at k rows) s ts end given p = one_follows (blind.Solve at k rows) s ts end given p

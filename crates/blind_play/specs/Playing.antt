@@ -60,6 +60,8 @@ abbrev pub Plays : LineEvent → NetworkParts → BlindState → List Turn → B
 Plays (line.Open peer holder) n old turns end = PlaysNamed (option_map (λ i. blind.Open i holder) peer) n old turns end
 Plays (line.Shut peer) n old turns end = PlaysNamed (option_map blind.Shut peer) n old turns end
 Plays (line.Feed peer bytes) n old turns end = PlaysFeedAt peer bytes n old turns end
+Plays (line.Receive peer bytes) n old turns end = PlaysNamed (option_map (λ i. blind.Feed i bytes) peer) n old turns end
+Plays (line.Take peer) n old turns end = PlaysNamed (option_map blind.Take peer) n old turns end
 Plays (line.Carry a b) n old turns end = PlaysOne (blind.Carry a b) n old turns end
 Plays (line.Break a b) n old turns end = PlaysOne (blind.Break a b) n old turns end
 Plays (line.Solve at k rows) n old turns end = PlaysOne (blind.Solve at k rows) n old turns end

@@ -76,6 +76,21 @@ fn shut_event(peer: Option<u32>) -> Option<BlindEvent>
     peer.map(|peer| BlindEvent::Shut(peer))
 }
 
+fn receive_event(peer: Option<u32>, bytes: Bytes) -> Option<BlindEvent>
+    ensures { result ≡ option_map (λ i. BlindEvent.Feed i bytes) peer }
+{
+    match peer {
+        Some(peer) => Some(BlindEvent::Feed(peer, bytes)),
+        None => None,
+    }
+}
+
+fn take_event(peer: Option<u32>) -> Option<BlindEvent>
+    ensures { result ≡ option_map (λ i. BlindEvent.Take i) peer }
+{
+    peer.map(|peer| BlindEvent::Take(peer))
+}
+
 fn drain_event(peer: Option<u32>, holder: u32) -> Option<BlindEvent>
     ensures { result ≡ option_map (λ i. BlindEvent.Drain i holder) peer }
 {
@@ -99,6 +114,10 @@ pub(crate) fn play_line(
         }
         LineEvent::Shut(peer) => play_named(alloc, plant, line, shut_event(peer), into),
         LineEvent::Feed(peer, bytes) => feed_named(alloc, plant, line, peer, bytes, into),
+        LineEvent::Receive(peer, bytes) => {
+            play_named(alloc, plant, line, receive_event(peer, bytes), into)
+        }
+        LineEvent::Take(peer) => play_named(alloc, plant, line, take_event(peer), into),
         LineEvent::Carry(from, to) => {
             play_one(alloc, plant, line, BlindEvent::Carry(from, to), into)
         }

@@ -79,6 +79,12 @@ module _ (number : ℕ) (old : PlayedNetwork) (answer : Answered) (turns : List 
       let first : fed_by p.fed.entry.event ≡ length bytes = ap fed_by p.event in
       omega (arith, ap (λ (ts : List Turn). fed_bytes (entries_of ts older)) p.are, taken, first)
 
+  -- nor does one that is not taken
+  receive_fed : (peer : Option ℕ) (bytes : Bytes) → PlaysNamed number old (option_map (λ i. event.Feed i bytes) peer) answer turns told end → (older : List Entry) →
+      fed_bytes (entries_of turns older) ≤ length bytes + fed_bytes older
+  receive_fed None bytes p older = omega (arith, fixed_fed (Err NoSuchPeer) p older)
+  receive_fed (Some i) bytes p older = omega (arith, made_fed (event.Feed i bytes) p older)
+
   at_most : (k : ℕ) → Feed turns 0 → (older : List Entry) → fed_bytes (entries_of turns older) ≤ k + fed_bytes older
   at_most k none older = omega (arith, none older)
 
@@ -89,6 +95,8 @@ module _ (number : ℕ) (old : PlayedNetwork) (answer : Answered) (turns : List 
   line_fed (line.Open peer holder) file p older = at_most 0 (named_fed peer (λ i. event.Open i holder) (λ i. refl) p) older
   line_fed (line.Shut peer) file p older = at_most 0 (named_fed peer event.Shut (λ i. refl) p) older
   line_fed (line.Feed peer bytes) file p older = feed_fed peer bytes p older
+  line_fed (line.Receive peer bytes) file p older = receive_fed peer bytes p older
+  line_fed (line.Take peer) file p older = at_most 0 (named_fed peer event.Take (λ i. refl) p) older
   line_fed (line.Carry a b) file p older = at_most 0 (made_fed (event.Carry a b) p) older
   line_fed (line.Break a b) file p older = at_most 0 (made_fed (event.Break a b) p) older
   line_fed (line.Solve at k rows) file p older = at_most 0 (made_fed (event.Solve at k) p) older

@@ -79,6 +79,8 @@ module _ (number : ℕ) (old : PlayedNetwork) (answer : Answered) (turns : List 
   given (line.Open peer holder) file octets loadable p = named_given peer (λ i. event.Open i holder) (λ i. tt) p
   given (line.Shut peer) file octets loadable p = named_given peer event.Shut (λ i. tt) p
   given (line.Feed peer bytes) file octets loadable p = feed_given peer bytes octets p
+  given (line.Receive peer bytes) file octets loadable p = named_given peer (λ i. event.Feed i bytes) (λ i. octets) p
+  given (line.Take peer) file octets loadable p = named_given peer event.Take (λ i. tt) p
   given (line.Carry a b) file octets loadable p = one_given (event.Carry a b) p tt
   given (line.Break a b) file octets loadable p = one_given (event.Break a b) p tt
   given (line.Solve at k rows) file octets loadable p = one_given (event.Solve at k) p tt

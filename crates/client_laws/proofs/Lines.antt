@@ -65,6 +65,8 @@ module _ (i number : ℕ) (old : PlayedNetwork) (answer : Answered) (turns : Lis
   plain_stays (line.Change at name) file plain p = absurd plain
   plain_stays (line.Open peer holder) file plain p = absurd plain
   plain_stays (line.Shut peer) file plain p = absurd plain
+  plain_stays (line.Receive peer bytes) file plain p = absurd plain
+  plain_stays (line.Take peer) file plain p = absurd plain
   plain_stays (line.Carry a b) file plain p = absurd plain
   plain_stays (line.Break a b) file plain p = absurd plain
   plain_stays (line.Solve at k rows) file plain p = absurd plain
@@ -110,6 +112,8 @@ module _ (number : ℕ) (old : PlayedNetwork) (answer : Answered) (turns : List 
   plain_turns (line.Change at name) file plain p = absurd plain
   plain_turns (line.Open peer holder) file plain p = absurd plain
   plain_turns (line.Shut peer) file plain p = absurd plain
+  plain_turns (line.Receive peer bytes) file plain p = absurd plain
+  plain_turns (line.Take peer) file plain p = absurd plain
   plain_turns (line.Carry a b) file plain p = absurd plain
   plain_turns (line.Break a b) file plain p = absurd plain
   plain_turns (line.Solve at k rows) file plain p = absurd plain

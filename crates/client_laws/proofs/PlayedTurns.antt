@@ -65,6 +65,8 @@ module _ (number : ℕ) (old : PlayedNetwork) (answer : Answered) (turns : List 
   line_turns (line.Open peer holder) file p = named_turns (option_map (λ i. event.Open i holder) peer) p
   line_turns (line.Shut peer) file p = named_turns (option_map event.Shut peer) p
   line_turns (line.Feed peer bytes) file p = feed_turns peer bytes p
+  line_turns (line.Receive peer bytes) file p = named_turns (option_map (λ i. event.Feed i bytes) peer) p
+  line_turns (line.Take peer) file p = named_turns (option_map event.Take peer) p
   line_turns (line.Carry a b) file p = one_turn (event.Carry a b) p
   line_turns (line.Break a b) file p = one_turn (event.Break a b) p
   line_turns (line.Solve at k rows) file p = one_turn (event.Solve at k) p

@@ -45,7 +45,7 @@ use Rattle.run_laws.proofs.plant_laws.plant_model.WireLaws.{wire_is_codec}
 use Rattle.client_laws.proofs.Asking.{lines_feed, no_connection}
 use Rattle.client_laws.proofs.Taking as taking
 use Rattle.client_laws.proofs.Taking.{AreTakenBut, Keeps}
-use Rattle.client_laws.specs.Resting.{AreTaken, AskedIsAtRest, AskedIsQuiet, FinishedIsAtRest, LinesTakeAll}
+use Rattle.client_laws.specs.Resting.{AreNoReceives, AreTaken, AskedIsAtRest, AskedIsQuiet, FinishedIsAtRest, IsNoReceive, LinesTakeAll}
 
 -- ---- all is taken, line by line
 
@@ -106,43 +106,49 @@ module _ (number : ℕ) (old : PlayedNetwork) (taken : AreTaken old.state) (answ
   feed_keeps None bytes p = none_keeps _ p
   feed_keeps (Some j) bytes p = fed_keeps j bytes p
 
-  -- any line
-  plays_keep : (e : LineEvent) (file : List ℕ) → Plays number old e file answer turns told end → AreTaken end
-  plays_keep (line.Load at name) file p = one_keeps (event.Load at p.topology) (taking.keeps_load old.network at p.topology) p.loads
-  plays_keep (line.Change at name) file p = by (is_element old.network at) p.makes
+  -- any line but `receive`
+  plays_keep : (e : LineEvent) (file : List ℕ) → IsNoReceive e → Plays number old e file answer turns told end → AreTaken end
+  plays_keep (line.Load at name) file none p = one_keeps (event.Load at p.topology) (taking.keeps_load old.network at p.topology) p.loads
+  plays_keep (line.Change at name) file none p = by (is_element old.network at) p.makes
     where
       by : (b : Bool) → cond b (Changes number old at p.changes answer turns told end) (PlaysNone number old (Err NoSuchPeer) answer turns told end) → AreTaken end
       by true c = one_keeps (event.Load at c.topology) (taking.keeps_load old.network at c.topology) c.loads
       by false none = none_keeps (Err NoSuchPeer) none
-  plays_keep (line.Open None holder) file p = none_keeps (Err NoSuchPeer) p
-  plays_keep (line.Open (Some i) holder) file p = one_keeps (event.Open i holder) (taking.keeps_open old.network i holder) p
-  plays_keep (line.Shut None) file p = none_keeps (Err NoSuchPeer) p
-  plays_keep (line.Shut (Some i)) file p = one_keeps (event.Shut i) (taking.keeps_shut old.network i) p
-  plays_keep (line.Feed peer bytes) file p = feed_keeps peer bytes p
-  plays_keep (line.Carry a b) file p = one_keeps (event.Carry a b) (taking.keeps_carry old.network a b) p
-  plays_keep (line.Break a b) file p = one_keeps (event.Break a b) (taking.keeps_break old.network a b) p
-  plays_keep (line.Solve at k rows) file p = one_keeps (event.Solve at k) (taking.keeps_solve old.network at k) p
-  plays_keep (line.Tick now) file p = one_keeps (event.Tick now) (taking.keeps_tick old.network now) p
-  plays_keep (line.Drain None holder) file p = none_keeps (Err NoSuchPeer) p
-  plays_keep (line.Drain (Some i) holder) file p = one_keeps (event.Drain i holder) (taking.keeps_drain old.network i holder) p
-  plays_keep line.Settle file p = due_keeps old.modes old.network Settled old.state turns end p.all.due taken
-  plays_keep line.Finish file p = due_keeps old.modes old.network Finished old.state turns end p.all.due taken
-  plays_keep line.CertifyOn file p = none_keeps (Ok Done) p
-  plays_keep line.DiscloseOn file p = none_keeps (Ok Done) p
+  plays_keep (line.Open None holder) file none p = none_keeps (Err NoSuchPeer) p
+  plays_keep (line.Open (Some i) holder) file none p = one_keeps (event.Open i holder) (taking.keeps_open old.network i holder) p
+  plays_keep (line.Shut None) file none p = none_keeps (Err NoSuchPeer) p
+  plays_keep (line.Shut (Some i)) file none p = one_keeps (event.Shut i) (taking.keeps_shut old.network i) p
+  plays_keep (line.Feed peer bytes) file none p = feed_keeps peer bytes p
+  plays_keep (line.Receive peer bytes) file none p = absurd none
+  plays_keep (line.Take None) file none p = none_keeps (Err NoSuchPeer) p
+  plays_keep (line.Take (Some i)) file none p = one_keeps (event.Take i) (taking.keeps_take old.network i) p
+  plays_keep (line.Carry a b) file none p = one_keeps (event.Carry a b) (taking.keeps_carry old.network a b) p
+  plays_keep (line.Break a b) file none p = one_keeps (event.Break a b) (taking.keeps_break old.network a b) p
+  plays_keep (line.Solve at k rows) file none p = one_keeps (event.Solve at k) (taking.keeps_solve old.network at k) p
+  plays_keep (line.Tick now) file none p = one_keeps (event.Tick now) (taking.keeps_tick old.network now) p
+  plays_keep (line.Drain None holder) file none p = none_keeps (Err NoSuchPeer) p
+  plays_keep (line.Drain (Some i) holder) file none p = one_keeps (event.Drain i holder) (taking.keeps_drain old.network i holder) p
+  plays_keep line.Settle file none p = due_keeps old.modes old.network Settled old.state turns end p.all.due taken
+  plays_keep line.Finish file none p = due_keeps old.modes old.network Finished old.state turns end p.all.due taken
+  plays_keep line.CertifyOn file none p = none_keeps (Ok Done) p
+  plays_keep line.DiscloseOn file none p = none_keeps (Ok Done) p
 
-line_keeps : (old : PlayedNetwork) (c : Cue) (answer : Answered) (turns : List Turn) (told : List ℕ) (new : PlayedNetwork) → PlaysLine old c answer turns told new → AreTaken old.state → AreTaken new.state
-line_keeps old c answer turns told new p taken = plays_keep c.number old taken answer turns told new.state c.event c.file p.plays
+line_keeps : (old : PlayedNetwork) (c : Cue) (answer : Answered) (turns : List Turn) (told : List ℕ) (new : PlayedNetwork) → IsNoReceive c.event → PlaysLine old c answer turns told new → AreTaken old.state → AreTaken new.state
+line_keeps old c answer turns told new none p taken = plays_keep c.number old taken answer turns told new.state c.event c.file none p.plays
 
-pub lines_keep : (cs : List Cue) (old : PlayedNetwork) (turns : List Turn) (told : List ℕ) (new : PlayedNetwork) → AllPlayed old cs turns told new → AreTaken old.state → AreTaken new.state
-lines_keep [] old turns told new p taken = subst (λ (x : PlayedNetwork). AreTaken x.state) (sym p.2) taken
-lines_keep (c ∷ cs) old turns told new p taken = lines_keep cs p.mid p.later p.more new p.others (line_keeps old c p.answer p.first p.said p.mid p.plays taken)
+pub lines_keep : (cs : List Cue) (old : PlayedNetwork) (turns : List Turn) (told : List ℕ) (new : PlayedNetwork) → AreNoReceives cs → AllPlayed old cs turns told new → AreTaken old.state → AreTaken new.state
+lines_keep [] old turns told new none p taken = subst (λ (x : PlayedNetwork). AreTaken x.state) (sym p.2) taken
+lines_keep (c ∷ cs) old turns told new none p taken =
+    let here = All-head (λ (d : Cue). IsNoReceive d.event) c cs none in
+    let others = All-tail (λ (d : Cue). IsNoReceive d.event) c cs none in
+    lines_keep cs p.mid p.later p.more new others p.others (line_keeps old c p.answer p.first p.said p.mid here p.plays taken)
 
 -- a new network has no connection
 pub new_is_taken : (n : NetworkParts) (new : PlayedNetwork) → IsNewNetwork n new → AreTaken new.state
 new_is_taken n new is i = subst HasEmptyInbox (sym (no_connection i None (new.state.accesses i).connection refl (run_fits wire n [] new.state is.run i))) tt
 
 pub lines_take_all : LinesTakeAll
-lines_take_all n new end cues turns told is p = lines_keep cues new turns told end p (new_is_taken n new is)
+lines_take_all n new end cues turns told is none p = lines_keep cues new turns told end none p (new_is_taken n new is)
 
 -- ---- nothing is on its way
 
@@ -265,16 +271,15 @@ rests_at n s taken over = record { taken = taken; carried = along s.queues (adja
 pub finish_rests : (old : PlayedNetwork) (c : Cue) (answer : Answered) (turns : List Turn) (told : List ℕ) (new : PlayedNetwork) → c.event ≡ line.Finish → PlaysLine old c answer turns told new → AreTaken old.state → IsAtRest old.network new.state
 finish_rests old c answer turns told new is p taken =
     let due : PlaysDue c.number old (IsDue Finished old.network) answer turns told new.state = subst (λ (e : LineEvent). Plays c.number old e c.file answer turns told new.state) is p.plays in
-    rests_at old.network new.state (line_keeps old c answer turns told new p taken) due.all.over
+    rests_at old.network new.state (line_keeps old c answer turns told new (subst IsNoReceive (sym is) tt) p taken) due.all.over
 
 lines_network : (cs : List Cue) (old : PlayedNetwork) (ts : List Turn) (said : List ℕ) (end : PlayedNetwork) → AllPlayed old cs ts said end → end.network ≡ old.network
 lines_network [] old ts said end p = ap (λ (x : PlayedNetwork). x.network) p.2
 lines_network (c ∷ cs) old ts said end p = lines_network cs p.mid p.later p.more end p.others ∙ p.plays.network
 
 pub finished_is_at_rest : FinishedIsAtRest
-finished_is_at_rest n new mid end cues turns last told more c answer is played finish p =
-    subst (λ (m : NetworkParts). IsAtRest m end.state) (lines_network cues new turns told mid played ∙ is.network)
-    (finish_rests mid c answer last more end finish p (lines_take_all n new mid cues turns told is played))
+finished_is_at_rest n new mid end cues turns last told more c answer is played taken finish p =
+    subst (λ (m : NetworkParts). IsAtRest m end.state) (lines_network cues new turns told mid played ∙ is.network) (finish_rests mid c answer last more end finish p taken)
 
 -- ---- a client that asks once
 
@@ -289,23 +294,23 @@ module _ (files : Option Files) where
       subst (λ (x : PlayedNetwork). IsAtRest old.network x.state) (sym p.others.2) (finish_rests old c p.answer p.first p.said p.mid are.0.event p.plays taken)
   last_line (c ∷ c' ∷ cs) are old new turns told p taken = absurd are.1
 
-  one_line : (e : LineEvent) (es : List LineEvent) → Rests es → Rests (e ∷ es)
-  one_line e es rests [] are old new turns told p taken = absurd are
-  one_line e es rests (c ∷ cs) are old new turns told p taken =
+  one_line : (e : LineEvent) (es : List LineEvent) → IsNoReceive e → Rests es → Rests (e ∷ es)
+  one_line e es none rests [] are old new turns told p taken = absurd are
+  one_line e es none rests (c ∷ cs) are old new turns told p taken =
       subst (λ (m : NetworkParts). IsAtRest m new.state) p.plays.network
-      (rests cs are.1 p.mid new p.later p.more p.others (line_keeps old c p.answer p.first p.said p.mid p.plays taken))
+      (rests cs are.1 p.mid new p.later p.more p.others (line_keeps old c p.answer p.first p.said p.mid (subst IsNoReceive (sym are.0.event) none) p.plays taken))
 
   loads_first : (ts : List (As × List ℕ)) (es : List LineEvent) → Rests es → Rests (map load_line ts ++ es)
   loads_first [] es rests = rests
-  loads_first (t ∷ ts) es rests = one_line (load_line t) (map load_line ts ++ es) (loads_first ts es rests)
+  loads_first (t ∷ ts) es rests = one_line (load_line t) (map load_line ts ++ es) tt (loads_first ts es rests)
 
   question_rests : (client : ℕ) (q : Question) → Rests (question_lines client q)
   question_rests client q =
       let asks = line.Feed (Some client) (question_text q) ∷ line.Finish ∷ [] in
       let opens = line.Feed (Some client) opening_text ∷ asks in
-      one_line line.Settle (line.Open (Some client) 0 ∷ opens)
-      (one_line (line.Open (Some client) 0) opens
-      (one_line (line.Feed (Some client) opening_text) asks (one_line (line.Feed (Some client) (question_text q)) (line.Finish ∷ []) last_line)))
+      one_line line.Settle (line.Open (Some client) 0 ∷ opens) tt
+      (one_line (line.Open (Some client) 0) opens tt
+      (one_line (line.Feed (Some client) opening_text) asks tt (one_line (line.Feed (Some client) (question_text q)) (line.Finish ∷ []) tt last_line)))
 
 pub asked_is_at_rest : AskedIsAtRest
 asked_is_at_rest files n client q received a =

@@ -221,6 +221,18 @@ module _ (n : NetworkParts) where
       go None = taken
       go (Some k) = item k.inbox
 
+  -- where nothing stands in an inbox, nothing is taken from it
+  take_keeps : (j : ℕ) (s : Plant) → AreTaken s → AreTaken (events.take Pin Segment wire n open_of j s).state
+  take_keeps j s taken = go (s.accesses j).connection (taken j)
+    where
+      item : (inbox : List (Option Bytes)) → inbox ≡ [] → AreTaken (events.take_item Pin Segment wire n open_of j s inbox).state
+      item [] none = taken
+      item (x ∷ rest) none = absurd (let clash : x ∷ rest ≡ [] = none in cc)
+
+      go : (o : Option Connection) → HasEmptyInbox o → AreTaken (events.take_open Pin Segment wire n open_of j s o).state
+      go None none = taken
+      go (Some k) none = item k.inbox none
+
   feed_refused : (j : ℕ) (bytes : Bytes) (s : Plant) → is_accepted (events.feed Pin Segment wire n open_of j bytes s).answer ≡ false → AreTaken s → AreTaken (events.feed Pin Segment wire n open_of j bytes s).state
   feed_refused j bytes s fails taken = go (s.accesses j).connection fails
     where
@@ -228,7 +240,7 @@ module _ (n : NetworkParts) where
       go None e = taken
       go (Some x) e = (let clash : true ≡ false = e in cc)
 
-  -- ---- all events but a feed and a take
+  -- ---- all events but a feed
 
   abbrev pub Keeps : Event → Type 0
   Keeps e = (s : Plant) (h : Happened) → Happens wire n s e h → AreTaken s → AreTaken h.state
@@ -241,6 +253,9 @@ module _ (n : NetworkParts) where
 
   pub keeps_shut : (j : ℕ) → Keeps (event.Shut j)
   keeps_shut j s h is taken = subst Kept (sym is) (shut_keeps j s taken)
+
+  pub keeps_take : (j : ℕ) → Keeps (event.Take j)
+  keeps_take j s h is taken = subst Kept (sym is) (take_keeps j s taken)
 
   pub keeps_carry : (a b : As) → Keeps (event.Carry a b)
   keeps_carry a b s h is taken = all_faded s h (subst (Fade s) (sym is) (carry_fades a b s)) taken

@@ -19,6 +19,7 @@ use Rattle.client_laws.specs.Laws.{FeedOctets}
 -- the octets that a line feeds
 abbrev pub fed_octets : LineEvent → ℕ
 fed_octets (line.Feed peer bytes) = length bytes
+fed_octets (line.Receive peer bytes) = length bytes
 fed_octets e = 0
 
 abbrev pub all_octets : List Cue → ℕ

@@ -13,6 +13,7 @@ use Rattle.plant_play.specs.Turns.{AreGiven, Turn, entries_of}
 -- what an event feeds is octets
 abbrev pub FeedsOctets : LineEvent → Type 0
 FeedsOctets (line.Feed peer bytes) = All (λ (b : ℕ). b < 256) bytes
+FeedsOctets (line.Receive peer bytes) = All (λ (b : ℕ). b < 256) bytes
 FeedsOctets e = Unit {0}
 
 -- each element's current topology is one that may be loaded

@@ -1,8 +1,8 @@
 -- The line `finish` of a script leaves a network at rest.
-use Rattle.std.specs.Prelude.{◌≡◌, ℕ, List, Option}
+use Rattle.std.specs.Prelude.{◌≡◌, ℕ, List, All, Option}
 use Rattle.dom_edge.specs.Stores.{Files}
 use Rattle.plant_text.specs.declared.line.LineEvent.TheVariants as line
-use Rattle.plant_play.specs.plant_model.Types.{NetworkParts}
+use Rattle.plant_play.specs.plant_model.Types.{LineEvent, NetworkParts}
 use Rattle.plant_play.specs.plant_model.Events.{Answered}
 use Rattle.plant_play.specs.plant_model.Laws.{IsNetwork}
 use Rattle.plant_play.specs.plant_model.Plant.{Plant}
@@ -18,15 +18,23 @@ use Rattle.plant_client.specs.Asking.{Asks}
 abbrev pub AreTaken : Plant → Type 0
 AreTaken s = (i : ℕ) → HasEmptyInbox (s.accesses i).connection
 
--- Between the lines of a script all that was fed was taken.
-abbrev pub LinesTakeAll : Type 0
-LinesTakeAll = (n : NetworkParts) (new end : PlayedNetwork) (cues : List Cue) (turns : List Turn) (told : List ℕ) → IsNewNetwork n new → AllPlayed new cues turns told end → AreTaken end.state
+-- it is no line `receive`, which takes nothing of what it feeds
+abbrev pub IsNoReceive : LineEvent → Type 0
+IsNoReceive (line.Receive peer bytes) = ⊥
+IsNoReceive e = Unit {0}
 
--- Where its last line is `finish`, the network is at rest.
+abbrev pub AreNoReceives : List Cue → Type 0
+AreNoReceives cues = All (λ (c : Cue). IsNoReceive c.event) cues
+
+-- Between the lines of a script without `receive` all that was fed was taken.
+abbrev pub LinesTakeAll : Type 0
+LinesTakeAll = (n : NetworkParts) (new end : PlayedNetwork) (cues : List Cue) (turns : List Turn) (told : List ℕ) → IsNewNetwork n new → AreNoReceives cues → AllPlayed new cues turns told end → AreTaken end.state
+
+-- Where all that was fed was taken, a line `finish` leaves the network at rest.
 abbrev pub FinishedIsAtRest : Type 0
 FinishedIsAtRest =
     (n : NetworkParts) (new mid end : PlayedNetwork) (cues : List Cue) (turns last : List Turn) (told more : List ℕ) (c : Cue) (answer : Answered) → IsNewNetwork n new → AllPlayed new cues turns told mid
-    → c.event ≡ line.Finish → PlaysLine mid c answer last more end → IsAtRest n end.state
+    → AreTaken mid.state → c.event ≡ line.Finish → PlaysLine mid c answer last more end → IsAtRest n end.state
 
 -- So it is at the end of the lines of a client that asks once, before what waits for it is handed out.
 abbrev pub AskedIsAtRest : Type 0

@@ -37,9 +37,9 @@ pub fn many_are_received()
     ensures { ManyAreReceived }
 {}
 
-/// Between the lines of a script all that was fed was taken; and where a script ends with `finish`, the network is at rest: no message
-/// is on its way along a link, and no job can be solved. So it is where a client has asked once, and then it is quiet: nothing stands
-/// elsewhere either.
+/// Between the lines of a script without `receive` all that was fed was taken; and where all was taken before a line `finish`, the network
+/// is at rest after it: no message is on its way along a link, and no job can be solved. So it is where a client has asked once, and then
+/// it is quiet: nothing stands elsewhere either.
 pub fn finished_is_at_rest()
     ensures taken { LinesTakeAll }
     ensures rest { FinishedIsAtRest }

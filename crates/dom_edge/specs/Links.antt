@@ -1,6 +1,8 @@
--- What the streams, links, listeners and ports in memory hold, and what the real ones count.
-use Rattle.std.specs.Prelude.{◌≡◌, ◌≢◌, ℕ, List, [], ◌∷◌, ◌++◌, length, min, Some, None, ◌⊎◌}
+-- What the streams, links, listeners and ports in memory hold.
+use Rattle.std.specs.Prelude.{◌≡◌, ◌≢◌, ℕ, List, [], ◌∷◌, ◌++◌, length, map, min, Some, None, ◌⊎◌}
 use Rattle.std.specs.List.{concat}
+use Rattle.std.specs.declared.option.Option.{Option}
+use Rattle.dom_base.specs.declared.addr.Addr.{Addr}
 use Rattle.dom_edge.specs.declared.stream.Got.{Got}
 use Rattle.dom_edge.specs.declared.stream.Got.TheVariants as got
 use Rattle.dom_edge.specs.declared.listener.Accepted.{Accepted}
@@ -8,6 +10,7 @@ use Rattle.dom_edge.specs.declared.listener.Accepted.TheVariants as accepted
 use Rattle.dom_edge.specs.declared.ports.Opened.{Opened}
 use Rattle.dom_edge.specs.declared.ports.Opened.TheVariants as opened
 use Rattle.dom_edge.specs.Causes.{IsCounted}
+use Rattle.dom_edge.specs.Heeding.{IsHeeded, Sides, sides}
 use Rattle.dom_edge.specs.Memory.{Calls, IsPlanned, SinkState}
 use Rattle.dom_edge.specs.Streams.{Reading, Writing}
 
@@ -56,27 +59,46 @@ stream_reading stream = pieces_reading stream.pieces stream.calls.faults
 abbrev pub sink_writing : SinkState → Writing
 sink_writing sink = record { written = Some sink.written; faults = sink.calls.faults }
 
--- a stream and a sink in one value
+-- a stream and a sink in one value, and the address that it comes from, where it has one
 pub record LinkState : Type 0 where
   pub stream : StreamState
   pub sink : SinkState
+  pub from : Option Addr
 
--- the links that a listener has left to hand out, the port that it was opened at, and how often it was quiet
+-- the sides of links in memory
+abbrev pub sides_of : List LinkState → List Sides
+sides_of links = map (λ (link : LinkState). sides (stream_reading link.stream) (sink_writing link.sink)) links
+
+-- the links that a listener has left to hand out and those that it handed out, each as it was then; the port that it was opened at,
+-- whom it heeds and whom it dials; and how often it was quiet
 pub record ListenerState : Type 0 where
   pub links : List LinkState
+  pub handed : List LinkState
   pub port : ℕ
+  pub heeds : Option Addr
+  pub dialled_to : Option Addr
   pub quiets : ℕ
   pub calls : Calls
 
--- an `accept` hands out the first of the links, and is quiet where none is left
-abbrev pub HandsOutLink : List LinkState → List LinkState → Accepted LinkState → Type 0
-HandsOutLink old new (accepted.Link link) = old ≡ link ∷ new
-HandsOutLink old new accepted.Quiet = (old ≡ []) × (new ≡ [])
-HandsOutLink old new accepted.Failed = new ≡ old
+-- no link was handed out yet, at no port, for anyone
+abbrev pub new_listener : List LinkState → Calls → ListenerState
+new_listener links calls = record { links = links; handed = []; port = 0; heeds = None; dialled_to = None; quiets = 0; calls = calls }
+
+-- that listener, opened at a port, for whom it heeds and dials from now on
+abbrev pub opened_for : ListenerState → ℕ → Option Addr → Option Addr → ListenerState
+opened_for l port heeds dialled_to =
+    record { links = l.links; handed = l.handed; port = port; heeds = heeds; dialled_to = dialled_to; quiets = l.quiets; calls = l.calls }
+
+-- An `accept` takes the first of the links. It hands it out where it is of whom is heeded, and is quiet where it is not, or where none is left.
+abbrev pub HandsOutLink : Option Addr → List LinkState → List LinkState → Accepted LinkState → Type 0
+HandsOutLink heeds old new (accepted.Link link) = (old ≡ link ∷ new) × IsHeeded heeds link.from
+HandsOutLink heeds old new accepted.Quiet = ((old ≡ []) × (new ≡ [])) ⊎ ((link : LinkState) × (old ≡ link ∷ new) × ¬ IsHeeded heeds link.from)
+HandsOutLink heeds old new accepted.Failed = new ≡ old
 
 -- a listener without failures
 pub record SteadyState : Type 0 where
   pub links : List LinkState
+  pub handed : List LinkState
   pub quiets : ℕ
 
 -- the listeners that ports have left to hand out, and the port at which a call last failed
@@ -85,32 +107,7 @@ pub record PortsState : Type 0 where
   pub failed_at : ℕ
   pub calls : Calls
 
--- a `listen` hands out the first of the listeners with the asked port, and fails where none is left or the failure is planned
-abbrev pub HandsOutListener : PortsState → List ListenerState → ℕ → Opened ListenerState → Type 0
-HandsOutListener old later port (opened.Port listener) = (first : ListenerState) × (old.listeners ≡ first ∷ later) × (listener ≡ record { links = first.links; port = port; quiets = first.quiets; calls = first.calls })
-HandsOutListener old later port opened.Failed = (later ≡ old.listeners) × (IsPlanned old.calls ⊎ (old.listeners ≡ []))
-
--- what a socket counts of each side; it tells nothing of content
-pub record SocketCounts : Type 0 where
-  pub faults : ℕ
-  pub quiets : ℕ
-  pub ends : ℕ
-  pub write_faults : ℕ
-
-abbrev pub socket_reading : SocketCounts → Reading
-socket_reading counts = record { left = None; faults = counts.faults; quiets = counts.quiets; ends = counts.ends }
-
-abbrev pub socket_writing : SocketCounts → Writing
-socket_writing counts = record { written = None; faults = counts.write_faults }
-
--- what a real listener counts
-pub record ListenerCounts : Type 0 where
-  pub port : ℕ
-  pub faults : ℕ
-  pub quiets : ℕ
-
--- what real ports count, and the port at which a call last failed
-pub record PortsCounts : Type 0 where
-  pub calls : ℕ
-  pub faults : ℕ
-  pub failed_at : ℕ
+-- What is handed out is the first of the listeners, opened as it was asked for. A call fails where none is left or the failure is planned.
+abbrev pub HandsOutListener : PortsState → List ListenerState → ℕ → Option Addr → Option Addr → Opened ListenerState → Type 0
+HandsOutListener old later port heeds dialled_to (opened.Port listener) = (first : ListenerState) × (old.listeners ≡ first ∷ later) × (listener ≡ opened_for first port heeds dialled_to)
+HandsOutListener old later port heeds dialled_to opened.Failed = (later ≡ old.listeners) × (IsPlanned old.calls ⊎ (old.listeners ≡ []))

@@ -1,47 +1,71 @@
 //! The ports of a machine: the trait, and its form in memory.
-ghost use Rattle.std.specs.Prelude.{◌≡◌, ◌≢◌, ◌↔◌, ℕ, [], ◌∷◌, ◌⊎◌, None, MatchOption};
+ghost use Rattle.std.specs.Prelude.{◌≡◌, ◌≢◌, ◌↔◌, ℕ, [], ◌∷◌, ◌⊎◌, None, Some, MatchOption};
 ghost use Rattle.dom_edge.specs.Causes.{HasCause, next_count};
 ghost use Rattle.dom_edge.specs.Memory.{IsPlanned, IsCalled, no_calls};
 ghost use Rattle.dom_edge.specs.Links.{HandsOutListener};
-ghost use Rattle.dom_edge.specs.Opening.{IsOpenedAt};
+ghost use Rattle.dom_edge.specs.Opening.{IsOpenedAt, IsOpenedFor};
 
 use crate::calls::PlannedCalls;
 use crate::listener::{Listener, MemoryListener};
 use crate::supply::Supply;
-use dom_base::List as Rows;
+use dom_base::{Addr, List as Rows};
 use std::marker::Model;
 
-/// What one `listen` gave: a listener at the port, or that it failed.
+/// What one call gave: a listener, or that it failed.
 #[derive(Drop)]
 pub enum Opened<P> {
     Port(P),
     Failed,
 }
 
-/// Ports that can be listened at.
+/// Ports that can be listened at, here, and dialled, elsewhere.
 pub trait Ports {
     /// The listeners.
     type Port: Listener + Drop;
 
-    /// How often a `listen` was called. The count stands still at the end of its type.
+    /// How often one of the calls was made. The count stands still at the end of its type.
     ghost calls: { Self → ℕ };
 
-    /// How often it failed. The count never falls, and stands still at the end of its type.
+    /// How often one failed. The count never falls, and stands still at the end of its type.
     ghost faults: { Self → ℕ };
 
-    /// The port at which it last failed.
+    /// The port at which one last failed.
     ghost failed_at: { Self → ℕ };
 
-    /// Listens at a port. What is handed out was opened at the asked port.
+    /// Listens at a port for whoever comes. What is handed out was opened at the asked port.
     fn listen(&mut self, port: u16) -> Opened<Self::Port>
         ensures called { calls self.new ≡ next_count (calls self.old) }
         ensures cause { HasCause (faults self.old) (faults self.new) (result ≡ Opened.Failed) }
         ensures asked { IsOpenedAt Self.Port.opened_at port result }
         ensures blame { result ≡ Opened.Failed → failed_at self.new ≡ port }
-        ensures keeps { result ≢ Opened.Failed → failed_at self.new ≡ failed_at self.old };
+        ensures keeps { result ≢ Opened.Failed → failed_at self.new ≡ failed_at self.old }
+        ensures heeds { IsOpenedFor Self.Port.heeds Self.Port.dialled_to None None result }
+    {
+        self.listen_for(port, None)
+    }
+
+    /// Listens at a port for who comes from that address, or with None for whoever comes. What is handed out was opened at the asked
+    /// port, and heeds that address alone.
+    fn listen_for(&mut self, port: u16, from: Option<Addr>) -> Opened<Self::Port>
+        ensures called { calls self.new ≡ next_count (calls self.old) }
+        ensures cause { HasCause (faults self.old) (faults self.new) (result ≡ Opened.Failed) }
+        ensures asked { IsOpenedAt Self.Port.opened_at port result }
+        ensures blame { result ≡ Opened.Failed → failed_at self.new ≡ port }
+        ensures keeps { result ≢ Opened.Failed → failed_at self.new ≡ failed_at self.old }
+        ensures heeds { IsOpenedFor Self.Port.heeds Self.Port.dialled_to from None result };
+
+    /// Dials a port of another machine. What is handed out tells that port as its own, dials that address, and hands out connections
+    /// to it alone.
+    fn dial(&mut self, to: Addr, port: u16) -> Opened<Self::Port>
+        ensures called { calls self.new ≡ next_count (calls self.old) }
+        ensures cause { HasCause (faults self.old) (faults self.new) (result ≡ Opened.Failed) }
+        ensures asked { IsOpenedAt Self.Port.opened_at port result }
+        ensures blame { result ≡ Opened.Failed → failed_at self.new ≡ port }
+        ensures keeps { result ≢ Opened.Failed → failed_at self.new ≡ failed_at self.old }
+        ensures heeds { IsOpenedFor Self.Port.heeds Self.Port.dialled_to (Some to) (Some to) result };
 }
 
-/// Ports in memory. They hand the listeners out in order, each with the asked port. A call with none
+/// Ports in memory. They hand the listeners out in order, each opened as it was asked for. A call with none
 /// left fails, and so do the calls whose numbers, from 0, are in `fails`.
 #[derive(Drop)]
 pub struct MemoryPorts {
@@ -90,6 +114,35 @@ impl MemoryPorts {
         }
         self.listeners.next()
     }
+
+    // The next listener, opened as it was asked for.
+    fn open(
+        &mut self,
+        port: u16,
+        heeds: Option<Addr>,
+        dialled_to: Option<Addr>,
+    ) -> Opened<MemoryListener>
+        ensures cause { HasCause self.old.calls.faults self.new.calls.faults (result ≡ Opened.Failed) }
+        ensures asked { IsOpenedAt (λ l. l.port) port result }
+        ensures blame { result ≡ Opened.Failed → self.new.failed_at ≡ port }
+        ensures keeps { result ≢ Opened.Failed → self.new.failed_at ≡ self.old.failed_at }
+        ensures heeds { IsOpenedFor (λ l. l.heeds) (λ l. l.dialled_to) heeds dialled_to result }
+        ensures planned { IsPlanned self.old.calls → result ≡ Opened.Failed }
+        ensures counted { IsCalled self.old.calls self.new.calls (result ≡ Opened.Failed) }
+        ensures listeners { HandsOutListener self.old self.new.listeners port heeds dialled_to result }
+    {
+        match self.take() {
+            Some(listener) => {
+                self.calls.pass();
+                Opened::Port(listener.at(port, heeds, dialled_to))
+            }
+            None => {
+                self.calls.fail();
+                self.failed_at = port;
+                Opened::Failed
+            }
+        }
+    }
 }
 
 impl Ports for MemoryPorts {
@@ -101,26 +154,31 @@ impl Ports for MemoryPorts {
 
     ghost failed_at = { λ p. p.failed_at };
 
-    fn listen(&mut self, port: u16) -> Opened<MemoryListener>
+    fn listen_for(&mut self, port: u16, from: Option<Addr>) -> Opened<MemoryListener>
         ensures called { self.new.calls.made ≡ next_count self.old.calls.made }
         ensures cause { HasCause self.old.calls.faults self.new.calls.faults (result ≡ Opened.Failed) }
         ensures asked { IsOpenedAt (λ l. l.port) port result }
         ensures blame { result ≡ Opened.Failed → self.new.failed_at ≡ port }
         ensures keeps { result ≢ Opened.Failed → self.new.failed_at ≡ self.old.failed_at }
+        ensures heeds { IsOpenedFor (λ l. l.heeds) (λ l. l.dialled_to) from None result }
         ensures planned { IsPlanned self.old.calls → result ≡ Opened.Failed }
         ensures counted { IsCalled self.old.calls self.new.calls (result ≡ Opened.Failed) }
-        ensures listeners { HandsOutListener self.old self.new.listeners port result }
+        ensures listeners { HandsOutListener self.old self.new.listeners port from None result }
     {
-        match self.take() {
-            Some(listener) => {
-                self.calls.pass();
-                Opened::Port(listener.at(port))
-            }
-            None => {
-                self.calls.fail();
-                self.failed_at = port;
-                Opened::Failed
-            }
-        }
+        self.open(port, from, None)
+    }
+
+    fn dial(&mut self, to: Addr, port: u16) -> Opened<MemoryListener>
+        ensures called { self.new.calls.made ≡ next_count self.old.calls.made }
+        ensures cause { HasCause self.old.calls.faults self.new.calls.faults (result ≡ Opened.Failed) }
+        ensures asked { IsOpenedAt (λ l. l.port) port result }
+        ensures blame { result ≡ Opened.Failed → self.new.failed_at ≡ port }
+        ensures keeps { result ≢ Opened.Failed → self.new.failed_at ≡ self.old.failed_at }
+        ensures heeds { IsOpenedFor (λ l. l.heeds) (λ l. l.dialled_to) (Some to) (Some to) result }
+        ensures planned { IsPlanned self.old.calls → result ≡ Opened.Failed }
+        ensures counted { IsCalled self.old.calls self.new.calls (result ≡ Opened.Failed) }
+        ensures listeners { HandsOutListener self.old self.new.listeners port (Some to) (Some to) result }
+    {
+        self.open(port, Some(to), Some(to))
     }
 }

@@ -6,7 +6,7 @@ ghost use Rattle.dom_edge.specs.Streams.{Puts, IsPutWhole};
 ghost use Rattle.dom_edge.specs.Memory.{IsPlanned, IsCalled, no_calls};
 
 use crate::calls::PlannedCalls;
-use dom_base::List as Rows;
+use dom_base::{Bytes, List as Rows};
 use std::alloc::Global;
 use std::io::Write;
 use std::marker::Model;
@@ -67,6 +67,14 @@ impl MemorySink {
     {
         self.bytes.as_slice()
     }
+
+    // All that was written; takes no memory.
+    pub(crate) fn into_bytes(self) -> Bytes
+        ensures { result ≡ self.written }
+    {
+        let MemorySink { bytes, calls: _ } = self;
+        Bytes::from_vec(bytes)
+    }
 }
 
 impl Sink for MemorySink {
@@ -112,6 +120,14 @@ impl<W: Write + Drop> OutputSink<W> {
         ensures { result ≡ record { inner = writer; faults = 0 } }
     {
         OutputSink { writer, faults: 0 }
+    }
+
+    // The writer again.
+    pub(crate) fn into_writer(self) -> W
+        ensures { result ≡ self.inner }
+    {
+        let OutputSink { writer, faults: _ } = self;
+        writer
     }
 }
 

@@ -1,5 +1,5 @@
 //! Files by their names: the trait, in memory, and those of the system.
-ghost use Rattle.std.specs.Prelude.{◌≡◌, ◌≢◌, ◌↔◌, ◌≤◌, ◌⊎◌, List, ℕ, [], length, IfOk, IfErr, None, Some};
+ghost use Rattle.std.specs.Prelude.{◌≡◌, ◌≢◌, ◌↔◌, ◌<◌, ◌≤◌, ◌⊎◌, List, ℕ, [], length, IfOk, IfErr, IfSome, Ok, Err, None, Some};
 ghost use Rattle.std.specs.declared.option.Option.{Option};
 ghost use Rattle.std.specs.Option.{option_copied};
 ghost use Rattle.dom_edge.specs.Causes.{HasCause, IsCounted};
@@ -164,7 +164,24 @@ impl MemoryStore {
     }
 }
 
-/// The files of the system. It tells nothing of what they hold.
+// All that a reader has left, where that is no more than the limit. One byte more than the limit is read at the most.
+fn read_within<R: Read + Drop>(alloc: Global, reader: R, limit: usize) -> io::Result<Option<Bytes>>
+    ensures whole { IfOk result (λ got. IfSome got (λ bytes. IfSome (R.remaining reader) (λ left. bytes ≡ left))) }
+    ensures within { IfOk result (λ got. IfSome got (λ bytes. length bytes ≤ limit)) }
+    ensures too_long { result ≡ Ok None → IfSome (R.remaining reader) (λ left. limit < length left) }
+{
+    let most = (limit as u64).saturating_add(1);
+    let mut bytes = Vec::new(alloc);
+    reader.take(most).read_to_end(&mut bytes)?;
+    if bytes.len() <= limit {
+        Ok(Some(Bytes::from_vec(bytes)))
+    } else {
+        Ok(None)
+    }
+}
+
+/// The files of the system. It tells nothing of what they hold. A name of anything else, as a folder or a
+/// pipe, is a fault.
 #[derive(Drop)]
 pub struct FileStore<R: Files + Drop> {
     rt: R,
@@ -199,13 +216,15 @@ impl<R: Files + Drop> FileStore<R> {
         self.failed_at.as_slice()
     }
 
-    // Reads at most `limit` bytes and one more.
-    fn read_up_to(&self, alloc: Global, name: &str, limit: usize) -> io::Result<Vec<u8>> {
-        let file = fs::open(&self.rt, name)?;
-        let most = (limit as u64).saturating_add(1);
-        let mut bytes = Vec::new(alloc);
-        file.take(most).read_to_end(&mut bytes)?;
-        Ok(bytes)
+    // A file that is read to its end, or the word that it is too long. What is no regular file is refused: to open a pipe
+    // would wait for somebody who writes into it.
+    fn contents(&self, alloc: Global, name: &str, limit: usize) -> io::Result<Option<Bytes>>
+        ensures { IfOk result (λ got. IfSome got (λ bytes. length bytes ≤ limit)) }
+    {
+        if !fs::metadata(&self.rt, name)?.is_file() {
+            return Err(io::Error::from(io::ErrorKind::InvalidInput));
+        }
+        read_within(alloc, fs::open(&self.rt, name)?, limit)
     }
 }
 
@@ -226,9 +245,9 @@ impl<R: Files + Drop> Store for FileStore<R> {
         ensures counted { IsCounted self.old.faults self.new.faults (result ≡ Err StoreError.Failed) }
     {
         let named = copy_of(alloc, name.as_bytes())?;
-        match self.read_up_to(alloc, name, limit) {
-            Ok(bytes) if bytes.len() <= limit => Ok(Bytes::from_vec(bytes)),
-            Ok(_) => Err(StoreError::TooLong),
+        match self.contents(alloc, name, limit) {
+            Ok(Some(bytes)) => Ok(bytes),
+            Ok(None) => Err(StoreError::TooLong),
             Err(error) if error.kind() == io::ErrorKind::OutOfMemory => Err(StoreError::NoMemory),
             Err(_) => {
                 self.failed_at = named;

@@ -1,11 +1,12 @@
 //! A stream and a sink in one value: the trait, and its form in memory.
-ghost use Rattle.std.specs.Prelude.{◌≡◌, ◌≢◌, ◌<◌, ◌↔◌, length};
+ghost use Rattle.std.specs.Prelude.{◌≡◌, ◌≢◌, ◌<◌, ◌↔◌, length, None, Some};
 ghost use Rattle.dom_edge.specs.Streams.{Reading, Writing, IsRead, IsWrite, IsPutWhole};
 ghost use Rattle.dom_edge.specs.Memory.{IsPlanned, IsCalled};
 ghost use Rattle.dom_edge.specs.Links.{IsPieceRead, stream_reading, sink_writing};
 
 use crate::sink::{MemorySink, Put, Sink};
 use crate::stream::{Got, MemoryStream, Stream};
+use dom_base::Addr;
 use std::marker::Model;
 
 /// A connection: bytes come in and go out, and neither way touches the other.
@@ -31,11 +32,12 @@ pub trait Wire {
 }
 
 /// A connection in memory: a stream and a sink. Each keeps its own count of calls, and its own list
-/// of those that are to fail.
+/// of those that are to fail. It comes from an address where it was made with one.
 #[derive(Drop)]
 pub struct MemoryLink {
     stream: MemoryStream,
     sink: MemorySink,
+    from: Option<Addr>,
 }
 
 impl Model for MemoryLink {
@@ -43,15 +45,37 @@ impl Model for MemoryLink {
 
     ghost Value = { LinkState };
 
-    ghost view = { λ l. record { stream = l.stream; sink = l.sink } };
+    ghost view = { λ l. record { stream = l.stream; sink = l.sink; from = l.from } };
 }
 
 impl MemoryLink {
     /// A wire whose reading side is this stream and whose writing side is this sink.
     pub fn new(stream: MemoryStream, sink: MemorySink) -> Self
-        ensures { result ≡ record { stream = stream; sink = sink } }
+        ensures { result ≡ record { stream = stream; sink = sink; from = None } }
     {
-        MemoryLink { stream, sink }
+        MemoryLink {
+            stream,
+            sink,
+            from: None,
+        }
+    }
+
+    /// The same, which comes from that address.
+    pub fn from_addr(stream: MemoryStream, sink: MemorySink, from: Addr) -> Self
+        ensures { result ≡ record { stream = stream; sink = sink; from = Some from } }
+    {
+        MemoryLink {
+            stream,
+            sink,
+            from: Some(from),
+        }
+    }
+
+    /// The address that it comes from.
+    pub fn came_from(&self) -> Option<Addr>
+        ensures { result ≡ self.now.from }
+    {
+        self.from
     }
 
     /// All that was written.

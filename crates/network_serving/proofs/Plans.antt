@@ -1,15 +1,18 @@
 -- Tasks that are planned one after the other.
-use Rattle.std.proofs.Common.{◌≡◌, ◌∙◌, ◌+◌, ◌-◌, ◌^◌, ◌<◌, ◌≤◌, ℕ, zero, suc, min, List, [], ◌∷◌, ◌++◌, length, map, take, get_or, All, ap, refl, sym, subst, arith, append_assoc, append-nil, Some}
+use Rattle.std.proofs.Common.{◌≡◌, ◌∙◌, ◌+◌, ◌-◌, ◌^◌, ◌<◌, ◌≤◌, ℕ, zero, suc, min, List, [], ◌∷◌, ◌++◌, length, map, take, get_or, All, ap, refl, sym, subst, arith, append_assoc, append-nil, Option, Some}
 use Rattle.std.specs.Prelude.{slice_get}
 use Rattle.std.proofs.lemmas.List.{flat_map_more, length-take-le, map-append, take_more}
 use Rattle.std.specs.List.{flat_map}
+use Rattle.dom_base.specs.declared.addr.Addr.{Addr}
 use Rattle.dom_base.specs.declared.names.As.{As}
 use Rattle.std.proofs.lemmas.List.Elements.{All-head, All-nil, All-push, All-tail}
 use Rattle.std.proofs.lemmas.Option.{slice_get-map, slice_get_read}
 use Rattle.std.specs.Option.{option_map}
 use Rattle.dom_edge.specs.Causes.{next_count}
+use Rattle.dom_edge.proofs.Counts.{counted_more}
 use Rattle.plant_text.specs.declared.settings.NetworkParts.{NetworkParts}
 use Rattle.plant_text.specs.declared.settings.PeerRow.{PeerRow}
+use Rattle.plant_text.specs.declared.settings.Comes.{Comes}
 use Rattle.network_serving.specs.Tasks.{IsNew, duty_of}
 use Rattle.network_serving.specs.declared.duties.Duty.{Duty}
 use Rattle.network_serving.specs.declared.duties.Duty.TheVariants.{Carry, Port, Work}
@@ -24,9 +27,9 @@ port_on : (j : ℕ) (a b : List PeerRow) → port_duties j (a ++ b) ≡ port_dut
 port_on j [] b = let same : j ≡ j + 0 = omega arith in ap (λ (i : ℕ). port_duties i b) same
 port_on j (row ∷ rows) b =
     let same : suc j + length rows ≡ j + suc (length rows) = omega arith in
-    ap (λ (ds : List Duty). Port j row.port ∷ ds) (port_on (suc j) rows b ∙ ap (λ (i : ℕ). port_duties (suc j) rows ++ port_duties i b) same)
+    ap (λ (ds : List Duty). Port j row.port row.comes ∷ ds) (port_on (suc j) rows b ∙ ap (λ (i : ℕ). port_duties (suc j) rows ++ port_duties i b) same)
 
-pub port_more : (rows : List PeerRow) (k : ℕ) (row : PeerRow) → k < length rows → row ≡ get_or rows k row → port_duties 0 (take (k + 1) rows) ≡ port_duties 0 (take k rows) ++ Port k row.port ∷ []
+pub port_more : (rows : List PeerRow) (k : ℕ) (row : PeerRow) → k < length rows → row ≡ get_or rows k row → port_duties 0 (take (k + 1) rows) ≡ port_duties 0 (take k rows) ++ Port k row.port row.comes ∷ []
 port_more rows k row below is =
     let long : 0 + length (take k rows) ≡ k = omega (arith, length-take-le k rows (omega (arith, below))) in
     ap (port_duties 0) (take_more rows k row below ∙ ap (λ (r : PeerRow). take k rows ++ r ∷ []) (sym is))
@@ -66,43 +69,50 @@ children_more start children i d old new below first second =
 
 -- ---- tasks
 
-module _ {K F I O R : Type 0} (opened_at : K → ℕ) where
-  pub none_added : (tasks : List (Task K F I O R)) → Adds opened_at tasks tasks []
+module _ {K F I O R : Type 0} (opened_at : K → ℕ) (heeds dialled_to : K → Option Addr) where
+  abbrev Added : List (Task K F I O R) → List (Task K F I O R) → List Duty → Type 0
+  Added = Adds opened_at heeds dialled_to
+
+  abbrev New : Task K F I O R → Type 0
+  New = IsNew heeds dialled_to
+
+  pub none_added : (tasks : List (Task K F I O R)) → Added tasks tasks []
   none_added tasks = record { duties_are = sym (append-nil (map (duty_of opened_at) tasks)); are_new = λ all. all }
 
-  pub one_added : (tasks : List (Task K F I O R)) (task : Task K F I O R) (new : List (Task K F I O R)) → IsNew task → new ≡ tasks ++ task ∷ [] → Adds opened_at tasks new (duty_of opened_at task ∷ [])
+  pub one_added : (tasks : List (Task K F I O R)) (task : Task K F I O R) (new : List (Task K F I O R)) → New task → new ≡ tasks ++ task ∷ [] → Added tasks new (duty_of opened_at task ∷ [])
   one_added tasks task new is_new is = record {
     duties_are = ap (map (duty_of opened_at)) is ∙ map-append (duty_of opened_at) tasks (task ∷ []);
-    are_new = λ all. subst (All IsNew) (sym is) (All-push IsNew tasks task all is_new);
+    are_new = λ all. subst (All New) (sym is) (All-push New tasks task all is_new);
   }
 
-  pub added_on : (old mid new : List (Task K F I O R)) (a b : List Duty) → Adds opened_at old mid a → Adds opened_at mid new b → Adds opened_at old new (a ++ b)
+  pub added_on : (old mid new : List (Task K F I O R)) (a b : List Duty) → Added old mid a → Added mid new b → Added old new (a ++ b)
   added_on old mid new a b first second = record {
     duties_are = second.duties_are ∙ ap (λ (ds : List Duty). ds ++ b) first.duties_are ∙ append_assoc (map (duty_of opened_at) old) a b;
     are_new = λ all. second.are_new (first.are_new all);
   }
 
   -- a task of the port of one more peer, or of one more worker
-  pub port_added : (rows : List PeerRow) (k : ℕ) (row : PeerRow) (port : ℕ) (old mid new : List (Task K F I O R)) → k < length rows → row ≡ get_or rows k row → port ≡ row.port →
-      Adds opened_at old mid (port_duties 0 (take k rows)) → Adds opened_at mid new (Port k port ∷ []) → Adds opened_at old new (port_duties 0 (take (k + 1) rows))
-  port_added rows k row port old mid new below is same first second =
-      subst (Adds opened_at old new) (sym (port_more rows k row below is))
-      (added_on old mid new (port_duties 0 (take k rows)) (Port k row.port ∷ []) first (subst (λ (p : ℕ). Adds opened_at mid new (Port k p ∷ [])) same second))
+  pub port_added : (rows : List PeerRow) (k : ℕ) (row : PeerRow) (port : ℕ) (comes : Comes) (old mid new : List (Task K F I O R)) → k < length rows → row ≡ get_or rows k row → port ≡ row.port → comes ≡ row.comes →
+      Added old mid (port_duties 0 (take k rows)) → Added mid new (Port k port comes ∷ []) → Added old new (port_duties 0 (take (k + 1) rows))
+  port_added rows k row port comes old mid new below is same who first second =
+      subst (Added old new) (sym (port_more rows k row below is))
+      (added_on old mid new (port_duties 0 (take k rows)) (Port k row.port row.comes ∷ []) first
+      (subst (λ (p : ℕ). Added mid new (Port k p row.comes ∷ [])) same (subst (λ (c : Comes). Added mid new (Port k port c ∷ [])) who second)))
 
-  pub work_added : (n : ℕ) (old mid new : List (Task K F I O R)) → Adds opened_at old mid (work_duties 0 n) → Adds opened_at mid new (Work n ∷ []) → Adds opened_at old new (work_duties 0 (n + 1))
-  work_added n old mid new first second = subst (Adds opened_at old new) (sym (work_more n)) (added_on old mid new (work_duties 0 n) (Work n ∷ []) first second)
+  pub work_added : (n : ℕ) (old mid new : List (Task K F I O R)) → Added old mid (work_duties 0 n) → Added mid new (Work n ∷ []) → Added old new (work_duties 0 (n + 1))
+  work_added n old mid new first second = subst (Added old new) (sym (work_more n)) (added_on old mid new (work_duties 0 n) (Work n ∷ []) first second)
 
   -- all of them
-  pub all_planned : (n parts : NetworkParts) (peers : List PeerRow) (start ports carrier all : List (Task K F I O R)) → parts ≡ n → peers ≡ parts.peers → start ≡ [] → Adds opened_at start ports (port_duties 0 peers) →
-      Adds opened_at ports carrier (Carry (ways_of parts) ∷ []) → Adds opened_at carrier all (work_duties 0 parts.workers) → (map (duty_of opened_at) all ≡ first_duties n) × All IsNew all
+  pub all_planned : (n parts : NetworkParts) (peers : List PeerRow) (start ports carrier all : List (Task K F I O R)) → parts ≡ n → peers ≡ parts.peers → start ≡ [] → Added start ports (port_duties 0 peers) →
+      Added ports carrier (Carry (ways_of parts) ∷ []) → Added carrier all (work_duties 0 parts.workers) → (map (duty_of opened_at) all ≡ first_duties n) × All New all
   all_planned n parts peers start ports carrier all same rows none first second third =
-      let adds : Adds opened_at start all (port_duties 0 peers ++ (Carry (ways_of parts) ∷ work_duties 0 parts.workers)) =
+      let adds : Added start all (port_duties 0 peers ++ (Carry (ways_of parts) ∷ work_duties 0 parts.workers)) =
       added_on start ports all (port_duties 0 peers) (Carry (ways_of parts) ∷ work_duties 0 parts.workers) first (added_on ports carrier all (Carry (ways_of parts) ∷ []) (work_duties 0 parts.workers) second third) in (
         adds.duties_are
             ∙ ap (λ (ts : List (Task K F I O R)). map (duty_of opened_at) ts ++ (port_duties 0 peers ++ (Carry (ways_of parts) ∷ work_duties 0 parts.workers))) none
             ∙ ap (λ (rs : List PeerRow). port_duties 0 rs ++ (Carry (ways_of parts) ∷ work_duties 0 parts.workers)) rows
             ∙ ap first_duties same,
-        adds.are_new (subst (All IsNew) (sym none) (All-nil IsNew)),
+        adds.are_new (subst (All New) (sym none) (All-nil New)),
       )
 
 -- ---- tasks that are taken one after the other
@@ -124,13 +134,10 @@ pub all_taken : {A : Type 0} (yielded rest whole : List A) → yielded ++ rest �
 all_taken yielded [] whole all none = sym (append-nil yielded) ∙ all
 all_taken yielded (x ∷ rest) whole all none = absurd (let no : ⊥ = omega (arith, none) in no)
 
-pub new_taken : {K F I O R : Type 0} (yielded rest later whole : List (Task K F I O R)) (x : Task K F I O R) → All IsNew whole → yielded ++ rest ≡ whole → rest ≡ x ∷ later → IsNew x
-new_taken yielded rest later whole x such all next = taken_such IsNew yielded rest later whole x such all next
+pub new_taken : {K F I O R : Type 0} (heeds dialled_to : K → Option Addr) (yielded rest later whole : List (Task K F I O R)) (x : Task K F I O R) → All (IsNew heeds dialled_to) whole → yielded ++ rest ≡ whole → rest ≡ x ∷ later → IsNew heeds dialled_to x
+new_taken heeds dialled_to yielded rest later whole x such all next = taken_such (IsNew heeds dialled_to) yielded rest later whole x such all next
 
 -- ---- counts
 
-pub rose_none : (n : ℕ) → n < 2 ^ 64 → RoseBy 0 (n, n)
-rose_none n small = omega (arith, small)
-
 pub rose_more : (k a b c : ℕ) → RoseBy k (a, b) → c ≡ next_count b → RoseBy (k + 1) (a, c)
-rose_more k a b c first second = omega (arith, first, second)
+rose_more k a b c first second = second ∙ ap next_count first ∙ sym (counted_more k a)

@@ -1,6 +1,7 @@
--- Ports that stand twice.
+-- Peers that are alike.
 use Rattle.std.proofs.Common.{◌≡◌, ◌∙◌, ◌⊎◌, inl, inr, ◌+◌, ◌≤◌, ◌<◌, ℕ, List, length, take, get_or, ap, refl, sym, subst, arith, Bool, true, false, Option, Some, None}
 use Rattle.std.specs.Prelude.{codes}
+use Rattle.std.specs.List.{list_any}
 use Rattle.std.proofs.lemmas.Bool.{cases_lt}
 use Rattle.std.proofs.lemmas.Option.{slice_get_cases, slice_get_read}
 use Rattle.plant_text.specs.declared.fault.NetFault.{NetFault}
@@ -8,16 +9,16 @@ use Rattle.plant_text.specs.declared.fault.NetFault.TheVariants.{Duplicate}
 use Rattle.plant_text.specs.declared.settings.NetworkParts.{NetworkParts}
 use Rattle.plant_text.specs.declared.settings.PeerRow.{PeerRow}
 use Rattle.network_serving.specs.Files.{IsBadText}
-use Rattle.network_serving.specs.Ports.{IsFirstRepeat, IsPortFault, IsRefusedPort, has_port, repeats, repeats_in}
+use Rattle.network_serving.specs.Ports.{IsFirstRepeat, IsPortFault, IsRefusedPort, are_alike, has_port, repeats, repeats_in}
 use Rattle.network_serving.specs.declared.served.Served.{Served}
 use Rattle.network_serving.specs.declared.served.Served.TheVariants as served
 
 module _ (peers : List PeerRow) where
-  pub repeat_at : (i : ℕ) (row : PeerRow) (b : Bool) → i < length peers → row ≡ get_or peers i row → has_port row.port (take i peers) ≡ b → repeats peers i ≡ b
+  pub repeat_at : (i : ℕ) (row : PeerRow) (b : Bool) → i < length peers → row ≡ get_or peers i row → list_any (λ (p : PeerRow). are_alike p row) (take i peers) ≡ b → repeats peers i ≡ b
   repeat_at i row b below at is = ap (repeats_in (take i peers)) (slice_get_read peers (length peers) i row refl below at) ∙ is
 
-  -- one more peer has no port of an earlier one
-  pub none_more : (i : ℕ) (row : PeerRow) → i < length peers → row ≡ get_or peers i row → has_port row.port (take i peers) ≡ false → ((k : ℕ) → k < i → repeats peers k ≡ false) → (k : ℕ) → k < i + 1 → repeats peers k ≡ false
+  -- one more peer is like no earlier one
+  pub none_more : (i : ℕ) (row : PeerRow) → i < length peers → row ≡ get_or peers i row → list_any (λ (p : PeerRow). are_alike p row) (take i peers) ≡ false → ((k : ℕ) → k < i → repeats peers k ≡ false) → (k : ℕ) → k < i + 1 → repeats peers k ≡ false
   none_more i row below at is before k less = elim (cases_lt k i) [
     | inl earlier ↦ before k earlier
     | inr later ↦ let same : k ≡ i = omega (arith, less, later) in subst (λ (j : ℕ). repeats peers j ≡ false) (sym same) (repeat_at i row false below at is)

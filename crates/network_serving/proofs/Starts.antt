@@ -3,7 +3,8 @@ use Rattle.std.proofs.Common.{◌≡◌, ◌∙◌, ◌⊎◌, inl, inr, ◌+◌
 use Rattle.std.specs.Prelude.{slice_get, option_to_list}
 use Rattle.std.proofs.lemmas.List.{length-map}
 use Rattle.dom_base.specs.declared.names.As.{As}
-use Rattle.dom_edge.specs.Causes.{next_count}
+use Rattle.dom_edge.specs.Causes.{counted_on, next_count}
+use Rattle.dom_edge.proofs.Counts.{counted_behind}
 use Rattle.dom_edge.specs.Stores.{Files}
 use Rattle.network_files.specs.Settings.{HasNetwork}
 use Rattle.plant_text.specs.declared.settings.NetworkParts.{NetworkParts}
@@ -18,6 +19,7 @@ use Rattle.network_serving.specs.Starting.{Called, IsClosed, IsPlanEnd, IsStartE
 use Rattle.network_serving.specs.declared.served.Served.{Served}
 use Rattle.network_serving.specs.declared.served.Served.TheVariants as served
 use Rattle.network_serving.proofs.Causes.{rose_from}
+use Rattle.network_serving.proofs.Plans.{rose_more}
 
 -- ---- places
 
@@ -35,7 +37,7 @@ get_behind (x ∷ xs) ys k = let e : suc (length xs) + k ≡ suc (length xs + k)
 pub plan_end : (ports : List ℕ) (k port a b c d e f at : ℕ) (s : Served) → slice_get ports k ≡ Some port → RoseBy k (a, b) → c ≡ next_count b → d ≤ e → IsClosed port (e, f) at s → IsPlanEnd ports (called (a, c) (d, f) at) s
 plan_end ports k port a b c d e f at s is calls next less closed =
     subst (IsPlanEnd ports (called (a, c) (d, f) at)) (sym closed.is)
-    (record { place = k; at_place = is; calls = omega (arith, calls, next); failed = rose_from d e f less closed.failed; at_port = closed.at_port })
+    (record { place = k; at_place = is; calls = rose_more k a b c calls next; failed = rose_from d e f less closed.failed; at_port = closed.at_port })
 
 pub want_plan : (ports : List ℕ) (x : Called) (s : Served) → s ≡ served.NoMemory → IsPlanEnd ports x s
 want_plan ports x s is = subst (IsPlanEnd ports x) (sym is) tt
@@ -56,7 +58,7 @@ module _ (n : NetworkParts) where
       record {
         place = length (peer_ports n.peers) + is.place;
         at_place = get_behind (peer_ports n.peers) (option_to_list n.watch) is.place ∙ is.at_place;
-        calls = omega (arith, calls, long, is.calls);
+        calls = is.calls ∙ ap (counted_on (is.place + 1)) calls ∙ sym (counted_behind (is.place + 1) (length n.peers) a) ∙ ap (λ (k : ℕ). counted_on k a) (let same : is.place + 1 + length n.peers ≡ length (peer_ports n.peers) + is.place + 1 = omega (arith, long) in same);
         failed = rose_from d e f less is.failed;
         at_port = is.at_port;
       }
@@ -117,7 +119,7 @@ want_start ports x faults s is = subst (IsStartEnd ports x faults) (sym is) tt
 pub watch_closed : (port a b c d at : ℕ) (faults : ℕ × ℕ) (s : Served) → b ≡ next_count a → IsClosed port (c, d) at s → IsStartEnd (port ∷ []) (called (a, b) (c, d) at) faults s
 watch_closed port a b c d at faults s next closed =
     subst (IsStartEnd (port ∷ []) (called (a, b) (c, d) at) faults) (sym closed.is)
-    (record { place = 0; at_place = refl; calls = omega (arith, next); failed = closed.failed; at_port = closed.at_port })
+    (record { place = 0; at_place = refl; calls = next; failed = closed.failed; at_port = closed.at_port })
 
 -- ---- duties
 

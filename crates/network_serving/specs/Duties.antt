@@ -9,10 +9,10 @@ use Rattle.plant_text.specs.declared.settings.PeerRow.{PeerRow}
 use Rattle.network_serving.specs.declared.duties.Duty.{Duty}
 use Rattle.network_serving.specs.declared.duties.Duty.TheVariants.{Port, Carry, Work, Operate, Watch}
 
--- the port of each peer, in order; peers are numbered
+-- the port of each peer and who connects there, in order; peers are numbered
 abbrev pub port_duties : ℕ → List PeerRow → List Duty
 port_duties k [] = []
-port_duties k (row ∷ rows) = Port k row.port ∷ port_duties (suc k) rows
+port_duties k (row ∷ rows) = Port k row.port row.comes ∷ port_duties (suc k) rows
 
 -- both ways of a link
 abbrev pub both_ways : As × As → List (As × As)

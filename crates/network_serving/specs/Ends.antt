@@ -1,6 +1,6 @@
 -- How serving a network ends, and why.
-use Rattle.std.specs.Prelude.{◌≡◌, ◌+◌, ◌-◌, ◌^◌, ◌≤◌, ℕ, List, ◌++◌, min, slice_get, Option, Some}
-use Rattle.dom_edge.specs.Causes.{Rose}
+use Rattle.std.specs.Prelude.{◌≡◌, ◌+◌, ℕ, List, ◌++◌, slice_get, Option, Some}
+use Rattle.dom_edge.specs.Causes.{Rose, counted_on}
 use Rattle.dom_edge.specs.Stores.{Files}
 use Rattle.network_files.specs.Settings.{HasNetwork}
 use Rattle.plant_text.specs.declared.settings.NetworkParts.{NetworkParts}
@@ -24,11 +24,11 @@ pub record World : Type 0 where
   pub spawner_faults : ℕ × ℕ
   pub readings : ℕ × ℕ
 
--- a count rose by so many, or stands at its type's last value
+-- a count rose by just so many, up to its type's last value
 abbrev pub RoseBy : ℕ → ℕ × ℕ → Type 0
-RoseBy n counts = min (counts.0 + n) (2 ^ 64 - 1) ≤ counts.1
+RoseBy n counts = counts.1 ≡ counted_on n counts.0
 
--- the port at some place of their order can't be listened at, after one call for each before it
+-- the port at some place of their order can't be opened, after one call for each before it and one for it
 pub record IsPortEnd (w : World) (name : List ℕ) (port : ℕ) : Type 0 where
   pub network : NetworkParts
   pub has : HasNetwork w.files name network

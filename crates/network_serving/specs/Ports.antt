@@ -1,34 +1,73 @@
--- Ports that settings name twice, and the ports that are listened at in their order.
-use Rattle.std.specs.Prelude.{◌≡◌, ◌⊎◌, ◌<◌, ◌==◌, ℕ, Bool, true, false, List, [], ◌∷◌, ◌++◌, codes, map, slice_get, take, Option, Some, None, IfSome, option_to_list}
+-- Peers that a server could not tell apart, and the ports that are opened in their order.
+use Rattle.std.specs.Prelude.{◌≡◌, ◌⊎◌, ◌<◌, ◌==◌, ◌&&◌, ℕ, Bool, true, false, List, [], ◌∷◌, ◌++◌, codes, map, slice_get, take, Option, Some, None, IfSome, option_to_list}
 use Rattle.std.specs.List.{list_any}
+use Rattle.dom_base.specs.declared.addr.Addr.{Addr}
+use Rattle.dom_base.specs.AddrOrder.{rank}
+use Rattle.dom_edge.specs.Heeding.{canonical}
 use Rattle.plant_text.specs.declared.fault.NetFault.{NetFault}
 use Rattle.plant_text.specs.declared.fault.NetFault.TheVariants.{Duplicate}
 use Rattle.plant_text.specs.declared.settings.NetworkParts.{NetworkParts}
 use Rattle.plant_text.specs.declared.settings.PeerRow.{PeerRow}
+use Rattle.plant_text.specs.declared.settings.Comes.{Comes}
+use Rattle.plant_text.specs.declared.settings.Comes.TheVariants.{Anyone, From, Dialled}
 use Rattle.network_serving.specs.declared.served.Served.{Served}
 use Rattle.network_serving.specs.declared.served.Served.TheVariants as served
 
--- one of these peers has that port
+-- one address of the machine, also where it is written as one of IPv6 that holds it
+abbrev pub is_one : Addr → Addr → Bool
+is_one a b = rank (canonical a) == rank (canonical b)
+
+-- whom a listener for such a peer heeds, and whom it dials
+abbrev pub heeded : Comes → Option Addr
+heeded Anyone = None
+heeded (From a) = Some a
+heeded (Dialled a) = Some a
+
+abbrev pub dialled : Comes → Option Addr
+dialled Anyone = None
+dialled (From a) = None
+dialled (Dialled a) = Some a
+
+-- At one port: both connect, and not each from an address of its own; or both are dialled at one address.
+abbrev pub share : Comes → Comes → Bool
+share (Dialled a) (Dialled b) = is_one a b
+share (Dialled a) Anyone = false
+share (Dialled a) (From b) = false
+share Anyone (Dialled b) = false
+share (From a) (Dialled b) = false
+share (From a) (From b) = is_one a b
+share Anyone Anyone = true
+share Anyone (From b) = true
+share (From a) Anyone = true
+
+abbrev pub are_alike : PeerRow → PeerRow → Bool
+are_alike p q = (p.port == q.port) && share p.comes q.comes
+
+-- a peer that connects, at that port
+abbrev pub comes_to : ℕ → PeerRow → Bool
+comes_to port row = (row.port == port) && share row.comes Anyone
+
+-- one of these peers connects at that port
 abbrev pub has_port : ℕ → List PeerRow → Bool
-has_port port peers = list_any (λ (row : PeerRow). row.port == port) peers
+has_port port peers = list_any (comes_to port) peers
 
 abbrev pub repeats_in : List PeerRow → Option PeerRow → Bool
 repeats_in before None = false
-repeats_in before (Some row) = has_port row.port before
+repeats_in before (Some row) = list_any (λ (p : PeerRow). are_alike p row) before
 
--- an earlier peer has the port of the one at this place
+-- the peer at this place is like an earlier one
 abbrev pub repeats : List PeerRow → ℕ → Bool
 repeats peers k = repeats_in (take k peers) (slice_get peers k)
 
 abbrev pub IsFirstRepeat : List PeerRow → ℕ → Type 0
 IsFirstRepeat peers k = (repeats peers k ≡ true) × ((j : ℕ) → j < k → repeats peers j ≡ false)
 
--- no two peers have one port, and none has that of watchers
+-- no two peers are alike, and none connects at the port of watchers
 pub record AreApart (n : NetworkParts) : Type 0 where
   pub peers : (k : ℕ) → repeats n.peers k ≡ false
   pub watch : IfSome n.watch (λ port. has_port port n.peers ≡ false)
 
--- the first peer whose port an earlier one has; or where there is none, a peer has the port of watchers
+-- the first peer that is like an earlier one; or where there is none, a peer connects at the port of watchers
 abbrev pub IsPortFault : NetworkParts → NetFault → Type 0
 IsPortFault n (Duplicate table row) =
     ((table ≡ codes "peer") × IsFirstRepeat n.peers row)
@@ -41,6 +80,6 @@ IsRefusedPort name n (served.BadNetwork file line fault) = (file ≡ name) × (l
 IsRefusedPort name n served.NoMemory = Unit {0}
 IsRefusedPort name n s = ⊥
 
--- the ports in the order in which they are listened at: those of the peers, and that of watchers
+-- the ports in the order in which they are opened: those of the peers, of one that is dialled the far one, and that of watchers
 abbrev pub ports_of : NetworkParts → List ℕ
 ports_of n = map (λ (row : PeerRow). row.port) n.peers ++ option_to_list n.watch

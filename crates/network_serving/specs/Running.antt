@@ -1,9 +1,11 @@
 -- What a task does in a run: just what the call does that its kind makes, over its own fields.
 use Rattle.std.specs.Prelude.{◌≡◌, ◌↔◌, ℕ, [], List, Option, Some}
+use Rattle.dom_base.specs.declared.addr.Addr.{Addr}
 use Rattle.dom_base.specs.declared.names.As.{As}
+use Rattle.dom_edge.specs.Heeding.{Sides}
 use Rattle.dom_edge.specs.Stores.{Files}
 use Rattle.ted_watch.specs.Watch.{known, published}
-use Rattle.server_loops.specs.Serving.{CarriesLinks, ServesPort, Waits, waits}
+use Rattle.server_loops.specs.Serving.{CarriesGuided, Heard, ServesPort, heard}
 use Rattle.server_loops.specs.declared.port.Ran.{Ran}
 use Rattle.server_loops.specs.declared.port.Ran.TheVariants as ran
 use Rattle.server_loops.specs.WorkerTurns.{Runs}
@@ -13,6 +15,8 @@ use Rattle.server_loops.specs.Operating.{Operates, context, side, sides, progres
 use Rattle.server_loops.specs.declared.operating.Operated.{Operated}
 use Rattle.server_loops.specs.declared.operating.Operated.TheVariants as operated
 use Rattle.turn_desk.specs.Desks.{Stand, benched_of, desked_of, stand_of}
+use Rattle.turn_desk.specs.Works.{works}
+use Rattle.turn_desk.specs.WorkBenches.{bench_of, desk_of}
 use Rattle.turn_desk.specs.Charts.{charted_of}
 use Rattle.network_serving.specs.declared.running.TaskEnd.{TaskEnd}
 use Rattle.network_serving.specs.declared.running.TaskEnd.TheVariants as end
@@ -23,8 +27,11 @@ use Rattle.network_serving.specs.Watching.{WatchesPort}
 -- what is told of the outside: of a listener, of a store of files, of an input and of an output
 pub record Outside (K F I O : Type 0) : Type 0 where
   pub opened_at : K → ℕ
+  pub heeds : K → Option Addr
+  pub dialled_to : K → Option Addr
   pub accept_faults : K → ℕ
   pub quiets : K → ℕ
+  pub handed : K → List Sides
   pub files : F → Option Files
   pub store_faults : F → ℕ
   pub failed_at : F → List ℕ
@@ -43,21 +50,26 @@ WorkedAsShown e s = (t : ℕ) → (e ≡ worked.Spent t) ↔ (s.spent ≡ Some t
 abbrev pub OperatedAsShown : Operated → Stand → Type 0
 OperatedAsShown e s = (t : ℕ) → (e ≡ operated.Spent t) ↔ (s.spent ≡ Some t)
 
-abbrev pub waits_of : {K F I O : Type 0} → Outside K F I O → K → Waits
-waits_of x l = waits (x.accept_faults l) (x.quiets l)
+-- the port, whom it heeds and whom it dials are what they were
+abbrev pub IsSameListener : {K F I O : Type 0} → Outside K F I O → K → K → Type 0
+IsSameListener x new old = (x.opened_at new ≡ x.opened_at old) × (x.heeds new ≡ x.heeds old) × (x.dialled_to new ≡ x.dialled_to old)
+
+abbrev pub heard_of : {K F I O : Type 0} → Outside K F I O → K → Heard
+heard_of x l = heard (x.accept_faults l) (x.quiets l) (x.handed l)
 
 module _ {K F I O R : Type 0} (x : Outside K F I O) (turns : ℕ) where
   -- The first of these tasks became the second, and ended so.
   abbrev pub RunsTask : TaskEnd → Task K F I O R → Task K F I O R → Type 0
-  RunsTask (end.Ran e) (task.Port peer listener desk) (task.Port peer' listener' desk') =
-      (peer' ≡ peer) × (x.opened_at listener' ≡ x.opened_at listener)
-      × ServesPort peer turns e (desked_of (stand_of desk)) (desked_of (stand_of desk')) (waits_of x listener) (waits_of x listener')
+  RunsTask (end.Ran e) (task.Port peer comes listener desk) (task.Port peer' comes' listener' desk') =
+      (peer' ≡ peer) × (comes' ≡ comes) × IsSameListener x listener' listener
+      × ServesPort peer turns e (desked_of (stand_of desk)) (desked_of (stand_of desk')) (heard_of x listener) (heard_of x listener')
       × RanAsShown e (stand_of desk')
   RunsTask (end.Ran e) (task.Carry links desk) (task.Carry links' desk') =
-      (links' ≡ links) × CarriesLinks links turns e (desked_of (stand_of desk)) (desked_of (stand_of desk')) × RanAsShown e (stand_of desk')
+      (links' ≡ links) × CarriesGuided links turns e (desked_of (stand_of desk)) (desked_of (stand_of desk')) × RanAsShown e (stand_of desk')
   RunsTask (end.Worked e) (task.Work index cache bench) (task.Work index' cache' bench') =
-      (index' ≡ index) × ((passed : List (As × ℕ)) × Runs index turns e (benched_of (stand_of bench)) (benched_of (stand_of bench')) [] passed cache')
-      × WorkedAsShown e (stand_of bench')
+      (index' ≡ index) × ((passed : List (As × ℕ)) × Runs index turns e (bench_of bench) (bench_of bench') [] passed cache')
+      × (works (bench_of bench').calls ≡ works (benched_of (desk_of bench')).calls)
+      × WorkedAsShown e (desk_of bench')
   RunsTask (end.Operated e) (task.Operate desk files network publisher input out) (task.Operate desk' files' network' publisher' input' out') =
       (network' ≡ network) × (x.files files' ≡ x.files files)
       × Operates (context network (x.files files)) turns e
@@ -67,5 +79,5 @@ module _ {K F I O R : Type 0} (x : Outside K F I O) (turns : ℕ) where
       (sides (side (x.left input') (x.input_faults input')) (side (x.written out') (x.output_faults out')))
       × OperatedAsShown e (stand_of desk')
   RunsTask end.Watching (task.Watch rt watcher listener) (task.Watch rt' watcher' listener') =
-      (x.opened_at listener' ≡ x.opened_at listener) × WatchesPort turns (known watcher) (known watcher') (waits_of x listener) (waits_of x listener')
+      IsSameListener x listener' listener × WatchesPort turns (known watcher) (known watcher') (heard_of x listener) (heard_of x listener')
   RunsTask e old new = ⊥

@@ -1,5 +1,6 @@
 -- The parts of a start: tasks that are planned, and why one is not started.
 use Rattle.std.specs.Prelude.{◌≡◌, ◌+◌, ◌≤◌, ◌-◌, ◌^◌, ℕ, min, List, ◌++◌, All, map, slice_get, option_to_list, Option, Some}
+use Rattle.dom_base.specs.declared.addr.Addr.{Addr}
 use Rattle.dom_edge.specs.Causes.{Rose}
 use Rattle.plant_text.specs.declared.settings.PeerRow.{PeerRow}
 use Rattle.network_serving.specs.Tasks.{IsNew, duty_of}
@@ -56,6 +57,6 @@ abbrev pub peer_ports : List PeerRow → List ℕ
 peer_ports rows = map (λ (row : PeerRow). row.port) rows
 
 -- New tasks of these duties were put behind others.
-pub record Adds {K F I O R : Type 0} (opened_at : K → ℕ) (old new : List (Task K F I O R)) (duties : List Duty) : Type 0 where
+pub record Adds {K F I O R : Type 0} (opened_at : K → ℕ) (heeds dialled_to : K → Option Addr) (old new : List (Task K F I O R)) (duties : List Duty) : Type 0 where
   pub duties_are : map (duty_of opened_at) new ≡ map (duty_of opened_at) old ++ duties
-  pub are_new : All IsNew old → All IsNew new
+  pub are_new : All (IsNew heeds dialled_to) old → All (IsNew heeds dialled_to) new

@@ -1,11 +1,12 @@
 //! What a task is to do.
 use dom_base::{As, List};
+use plant_text::Comes;
 
 /// What a task is to do, without what it does it with.
 #[derive(Drop)]
 pub enum Duty {
-    /// It serves the connections of this peer, which come in at this port.
-    Port(u32, u16),
+    /// It serves the connections of this peer, which come in at this port, or which it makes itself, to this port of the peer.
+    Port(u32, u16, Comes),
     /// It carries messages along these ways.
     Carry(List<(As, As)>),
     /// It solves jobs, as the worker of this index.

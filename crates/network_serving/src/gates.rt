@@ -1,14 +1,14 @@
 //! The gate of a worker that shares nothing with others.
 ghost use Rattle.std.specs.Prelude.{◌≡◌, []};
 
-use crate::noted::Noted;
 use dom_base::As;
+use dom_edge::Noted;
 use server_loops::Gate;
 
 /// A gate that is always open: it is passed at once. It has no bytes; which jobs passed it, proofs alone know.
 #[derive(Drop)]
 pub struct OpenGate {
-    jobs: Noted<As, u64>,
+    jobs: Noted<(As, u64)>,
 }
 
 impl OpenGate {
@@ -24,6 +24,6 @@ impl Gate for OpenGate {
     ghost passed = { λ g. g.jobs.items };
 
     fn before(&mut self, at: As, number: u64) {
-        self.jobs = self.jobs.and(&at, &number);
+        self.jobs = self.jobs.and(&(at, number));
     }
 }

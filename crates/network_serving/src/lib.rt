@@ -8,7 +8,6 @@ mod gates;
 mod loading;
 mod memory;
 mod naming;
-mod noted;
 mod planning;
 mod ports;
 mod preparing;

@@ -18,9 +18,10 @@ impl<K: Listener, F, I, O, R: Wait + Clock + Drop> Task<K, F, I, O, R> {
         match self {
             Task::Port {
                 peer,
+                comes,
                 listener,
                 desk: _,
-            } => Ok(Duty::Port(*peer, listener.port())),
+            } => Ok(Duty::Port(*peer, listener.port(), *comes)),
             Task::Carry { links, desk: _ } => Ok(Duty::Carry(links.copy(alloc)?)),
             Task::Work {
                 index,

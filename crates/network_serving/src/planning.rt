@@ -1,11 +1,14 @@
-//! The tasks of the ports, of the carrier and of the workers.
+//! The tasks of the peers, of the carrier and of the workers.
 ghost use Rattle.std.specs.Prelude.{◌≡◌, ◌≤◌, ◌<◌, ◌^◌, ◌++◌, ◌∷◌, [], All, IfErr, IfOk, OnOk, length, map};
 ghost use Rattle.std.specs.List.{flat_map};
-ghost use Rattle.dom_edge.specs.Causes.{next_count};
+ghost use Rattle.dom_edge.specs.Causes.{HasCause, next_count};
+ghost use Rattle.dom_edge.specs.Opening.{IsOpenedAt, IsOpenedFor};
 ghost use Rattle.network_serving.specs.Tasks.{IsNew, duty_of};
 ghost use Rattle.network_serving.specs.declared.duties.Duty.TheVariants.{Carry};
 ghost use Rattle.network_serving.specs.Duties.{both_ways, child_ways, first_duties, port_duties, ways_of, work_duties};
 ghost use Rattle.network_serving.specs.Ends.{RoseBy};
+ghost use Rattle.network_serving.specs.Ports.{dialled, heeded};
+ghost use Rattle.turn_desk.specs.Desks.{stand_of};
 ghost use Rattle.network_serving.specs.Starting.{Adds, IsClosed, IsPlanEnd, called, peer_ports};
 
 use crate::served::Served;
@@ -14,11 +17,11 @@ use cost_cache::Cache;
 use dom_base::{As, List, NoMemory};
 use dom_edge::{Listener, Opened, Ports};
 use network_links::children_of;
-use plant_text::{Network, NetworkParts, PeerRow};
+use plant_text::{Comes, Network, NetworkParts, PeerRow};
 use std::alloc::Global;
 use std::sync::Wait;
 use std::time::Clock;
-use turn_desk::TurnDesk;
+use turn_desk::{TurnDesk, WorkBench};
 
 // How many solved jobs each worker keeps.
 const CACHE_CAPACITY: usize = 64;
@@ -68,21 +71,39 @@ pub(crate) fn ways_of(alloc: Global, parts: &NetworkParts) -> Result<List<(As, A
 pub(crate) fn desk_beside<R: Wait + Clock + Copy + Drop>(
     rt: R,
     desk: &mut TurnDesk<R>,
-) -> Result<TurnDesk<R>, NoMemory> {
+) -> Result<TurnDesk<R>, NoMemory>
+    ensures new { IfOk result (λ desk. (stand_of desk).own ≡ []) }
+{
     match desk.split(rt) {
         Ok(desk) => Ok(desk),
         Err(_) => Err(NoMemory),
     }
 }
 
-/// Listens at a port.
-pub(crate) fn listen<Q: Ports>(ports: &mut Q, port: u16) -> Result<Q::Port, Served>
+// Listens at a port, or will dial one, as is said of who connects.
+fn opened<Q: Ports>(ports: &mut Q, port: u16, comes: Comes) -> Opened<Q::Port>
+    ensures called { Q.calls ports.new ≡ next_count (Q.calls ports.old) }
+    ensures cause { HasCause (Q.faults ports.old) (Q.faults ports.new) (result ≡ Opened.Failed) }
+    ensures asked { IsOpenedAt Q.Port.opened_at port result }
+    ensures blame { result ≡ Opened.Failed → Q.failed_at ports.new ≡ port }
+    ensures heeds { IsOpenedFor Q.Port.heeds Q.Port.dialled_to (heeded comes) (dialled comes) result }
+{
+    match comes {
+        Comes::Anyone => ports.listen_for(port, None),
+        Comes::From(address) => ports.listen_for(port, Some(address)),
+        Comes::Dialled(address) => ports.dial(address, port),
+    }
+}
+
+/// Listens at a port, or will dial one, as is said of who connects.
+pub(crate) fn open_port<Q: Ports>(ports: &mut Q, port: u16, comes: Comes) -> Result<Q::Port, Served>
     ensures ok { IfOk result (λ listener. Q.Port.opened_at listener ≡ port) }
+    ensures heeds { IfOk result (λ listener. (Q.Port.heeds listener ≡ heeded comes) × (Q.Port.dialled_to listener ≡ dialled comes)) }
     ensures err { IfErr result (IsClosed port (Q.faults ports.old, Q.faults ports.new) (Q.failed_at ports.new)) }
     ensures called { Q.calls ports.new ≡ next_count (Q.calls ports.old) }
     ensures later { Q.faults ports.old ≤ Q.faults ports.new }
 {
-    match ports.listen(port) {
+    match opened(ports, port, comes) {
         Opened::Port(listener) => Ok(listener),
         Opened::Failed => Err(Served::NoPort(port)),
     }
@@ -94,8 +115,8 @@ fn push_task<K: Listener + Drop, F: Drop, I: Drop, O: Drop, R: Wait + Clock + Dr
     tasks: &mut Vec<Task<K, F, I, O, R>>,
     task: Task<K, F, I, O, R>,
 ) -> Result<(), NoMemory>
-    requires new { IsNew task }
-    ensures ok { OnOk result (Adds K.opened_at tasks.old.items tasks.new.items (duty_of K.opened_at task ∷ [])) }
+    requires new { IsNew K.heeds K.dialled_to task }
+    ensures ok { OnOk result (Adds K.opened_at K.heeds K.dialled_to tasks.old.items tasks.new.items (duty_of K.opened_at task ∷ [])) }
 {
     match tasks.push(task) {
         Ok(()) => Ok(()),
@@ -103,7 +124,14 @@ fn push_task<K: Listener + Drop, F: Drop, I: Drop, O: Drop, R: Wait + Clock + Dr
     }
 }
 
-// A task for the port of each peer, in order.
+// What wakes the thread that waits at that listener is hung on the board.
+fn hang_bell<K: Listener, R: Wait + Clock>(desk: &TurnDesk<R>, peer: u32, listener: &K) {
+    if let Some(bell) = listener.bell() {
+        desk.hang(peer, bell);
+    }
+}
+
+// A task for each peer, in order: at its port, or one that dials it.
 #[tactic(auto, using(crate::proofs::Starts::plan_end, crate::proofs::Starts::want_plan))]
 fn add_ports<Q: Ports, F: Drop, I: Drop, O: Drop, R: Wait + Clock + Copy + Drop>(
     rt: R,
@@ -113,16 +141,19 @@ fn add_ports<Q: Ports, F: Drop, I: Drop, O: Drop, R: Wait + Clock + Copy + Drop>
     tasks: &mut Vec<Task<Q::Port, F, I, O, R>>,
 ) -> Result<(), Served>
     requires few { length peers.now < 2 ^ 32 }
-    ensures ok { OnOk result (Adds Q.Port.opened_at tasks.old.items tasks.new.items (port_duties 0 peers.now)) }
+    ensures ok { OnOk result (Adds Q.Port.opened_at Q.Port.heeds Q.Port.dialled_to tasks.old.items tasks.new.items (port_duties 0 peers.now)) }
     ensures calls { OnOk result (RoseBy (length peers.now) (Q.calls ports.old, Q.calls ports.new)) }
     ensures err { IfErr result (IsPlanEnd (peer_ports peers.now) (called (Q.calls ports.old, Q.calls ports.new) (Q.faults ports.old, Q.faults ports.new) (Q.failed_at ports.new))) }
     ensures later { Q.faults ports.old ≤ Q.faults ports.new }
 {
     for peer in 0..peers.len() {
-        let listener = listen(ports, peers[peer].port)?;
+        let row = &peers[peer];
+        let listener = open_port(ports, row.port, row.comes)?;
         let desk = desk_beside(rt, desk)?;
+        hang_bell(&desk, peer as u32, &listener);
         let task = Task::Port {
             peer: peer as u32,
+            comes: row.comes,
             listener,
             desk,
         };
@@ -139,11 +170,11 @@ fn add_workers<K: Listener + Drop, F: Drop, I: Drop, O: Drop, R: Wait + Clock + 
     workers: u32,
     tasks: &mut Vec<Task<K, F, I, O, R>>,
 ) -> Result<(), NoMemory>
-    ensures ok { OnOk result (Adds K.opened_at tasks.old.items tasks.new.items (work_duties 0 workers)) }
+    ensures ok { OnOk result (Adds K.opened_at K.heeds K.dialled_to tasks.old.items tasks.new.items (work_duties 0 workers)) }
 {
     for index in 0..workers {
         let cache = Cache::new(alloc, CACHE_CAPACITY)?;
-        let bench = desk_beside(rt, desk)?;
+        let bench = WorkBench::new(desk_beside(rt, desk)?, index);
         push_task(
             tasks,
             Task::Work {
@@ -164,14 +195,15 @@ fn add_carrier<K: Listener + Drop, F: Drop, I: Drop, O: Drop, R: Wait + Clock + 
     parts: &NetworkParts,
     tasks: &mut Vec<Task<K, F, I, O, R>>,
 ) -> Result<(), NoMemory>
-    ensures ok { OnOk result (Adds K.opened_at tasks.old.items tasks.new.items (Carry (ways_of parts.now) ∷ [])) }
+    ensures ok { OnOk result (Adds K.opened_at K.heeds K.dialled_to tasks.old.items tasks.new.items (Carry (ways_of parts.now) ∷ [])) }
 {
     let links = ways_of(alloc, parts)?;
     let desk = desk_beside(rt, desk)?;
+    desk.tell_ways(alloc, links.as_slice())?;
     push_task(tasks, Task::Carry { links, desk })
 }
 
-/// The tasks of the ports, of the carrier and of the workers. It listens at each peer's port, in order.
+/// The tasks of the peers, of the carrier and of the workers. It listens at each peer's port or will dial it, in order.
 pub(crate) fn plan_tasks<Q: Ports, F: Drop, I: Drop, O: Drop, R: Wait + Clock + Copy + Drop>(
     rt: R,
     alloc: Global,
@@ -179,7 +211,7 @@ pub(crate) fn plan_tasks<Q: Ports, F: Drop, I: Drop, O: Drop, R: Wait + Clock + 
     ports: &mut Q,
     network: &Network,
 ) -> Result<Vec<Task<Q::Port, F, I, O, R>>, Served>
-    ensures ok { IfOk result (λ tasks. (map (duty_of Q.Port.opened_at) tasks.items ≡ first_duties network.now) × All IsNew tasks.items) }
+    ensures ok { IfOk result (λ tasks. (map (duty_of Q.Port.opened_at) tasks.items ≡ first_duties network.now) × All (IsNew Q.Port.heeds Q.Port.dialled_to) tasks.items) }
     ensures calls { OnOk result (RoseBy (length network.now.peers) (Q.calls ports.old, Q.calls ports.new)) }
     ensures err { IfErr result (IsPlanEnd (peer_ports network.now.peers) (called (Q.calls ports.old, Q.calls ports.new) (Q.faults ports.old, Q.faults ports.new) (Q.failed_at ports.new))) }
     ensures later { Q.faults ports.old ≤ Q.faults ports.new }

@@ -5,7 +5,7 @@ use crate::gates::OpenGate;
 use crate::tasks::Task;
 use crate::watching::watch_port;
 use dom_edge::{Listener, Sink, Source, Store};
-use server_loops::{Operated, Ran, Worked, carry_links, operate, serve_port, work};
+use server_loops::{Operated, Ran, Worked, carry_guided, operate, serve_port, work};
 use std::alloc::Global;
 use std::sync::Wait;
 use std::time::Clock;
@@ -26,23 +26,28 @@ impl<K: Listener, F: Store, I: Source, O: Sink, R: Wait + Clock + Drop> Task<K, 
 
     /// Does it, for so many turns at most. It ends as the call of its kind does.
     pub fn run(&mut self, alloc: Global, turns: u64) -> TaskEnd
-        requires new { IsNew self.old }
-        ensures runs { RunsTask (record { opened_at = K.opened_at; accept_faults = K.faults; quiets = K.quiets; files = F.files; store_faults = F.faults; failed_at = F.failed_at; left = I.left; input_faults = I.faults; written = O.written; output_faults = O.faults }) turns result self.old self.new }
+        requires new { IsNew K.heeds K.dialled_to self.old }
+        ensures runs { RunsTask (record { opened_at = K.opened_at; heeds = K.heeds; dialled_to = K.dialled_to; accept_faults = K.faults; quiets = K.quiets; handed = K.handed; files = F.files; store_faults = F.faults; failed_at = F.failed_at; left = I.left; input_faults = I.faults; written = O.written; output_faults = O.faults }) turns result self.old self.new }
     {
         match self {
             Task::Port {
                 peer,
+                comes: _,
                 listener,
                 desk,
             } => { TaskEnd::Ran(serve_port(alloc, desk, *peer, listener, turns)) }
             Task::Carry { links, desk } => {
-                TaskEnd::Ran(carry_links(desk, links.as_slice(), turns))
+                TaskEnd::Ran(carry_guided(desk, links.as_slice(), turns))
             }
             Task::Work {
                 index,
                 cache,
                 bench,
-            } => { TaskEnd::Worked(work(alloc, bench, &mut OpenGate::new(), cache, *index, turns)) }
+            } => {
+                let worked = work(alloc, bench, &mut OpenGate::new(), cache, *index, turns);
+                bench.let_go();
+                TaskEnd::Worked(worked)
+            }
             Task::Operate {
                 desk,
                 files,

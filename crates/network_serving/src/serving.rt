@@ -8,7 +8,7 @@ ghost use Rattle.network_serving.specs.Ends.{Ends};
 ghost use Rattle.network_serving.specs.Ports.{ports_of};
 ghost use Rattle.network_serving.specs.Starting.{IsStartEnd, called};
 
-use crate::planning::{desk_beside, listen, plan_tasks};
+use crate::planning::{desk_beside, open_port, plan_tasks};
 use crate::preparing::{Prepared, prepare};
 use crate::served::Served;
 use crate::spawner::Spawner;
@@ -16,6 +16,7 @@ use crate::starting::{start, start_all};
 use crate::tasks::Task;
 use crate::telling::tell_ready;
 use dom_edge::{Clock as TickClock, Listener, Ports, Sink, Source, Store};
+use plant_text::Comes;
 use server_loops::tick_on;
 use std::alloc::Global;
 use std::sync::Wait;
@@ -32,6 +33,7 @@ fn start_watch<S, Q, F, I, O, R, L>(
     ports: &mut Q,
     spawner: &mut Spawner<S>,
     log: &mut L,
+    at: &str,
     watch: Option<u16>,
     watcher: Watcher,
 ) -> Result<(), Served>
@@ -51,13 +53,13 @@ where
     let Some(port) = watch else {
         return Ok(());
     };
-    let listener = listen(ports, port)?;
+    let listener = open_port(ports, port, Comes::Anyone)?;
     let task: Task<Q::Port, F, I, O, R> = Task::Watch {
         rt,
         watcher,
         listener,
     };
-    start(alloc, spawner, log, &[], task)
+    start(alloc, spawner, log, at, &[], task)
 }
 
 // Listens at the ports of a network, and starts its tasks. The desk is left for what tells the time.
@@ -72,6 +74,7 @@ fn start_network<Q, S, F, I, O, R, L>(
     input: I,
     out: O,
     log: &mut L,
+    at: &str,
 ) -> Result<TurnDesk<R>, Served>
 where
     Q: Ports,
@@ -94,7 +97,8 @@ where
         watcher,
     } = prepared;
     let tasks = plan_tasks::<Q, F, I, O, R>(rt, alloc, &mut desk, ports, &network)?;
-    start_all(alloc, spawner, log, network.parts().peers.as_slice(), tasks)?;
+    let peers = network.parts().peers.as_slice();
+    start_all(alloc, spawner, log, at, peers, tasks)?;
     let watch = network.parts().watch;
     let beside = desk_beside(rt, &mut desk)?;
     let operator: Task<Q::Port, F, I, O, R> = Task::Operate {
@@ -105,17 +109,18 @@ where
         input,
         out,
     };
-    start(alloc, spawner, log, &[], operator)?;
-    start_watch::<S, Q, F, I, O, R, L>(rt, alloc, ports, spawner, log, watch, watcher)?;
+    start(alloc, spawner, log, at, &[], operator)?;
+    start_watch::<S, Q, F, I, O, R, L>(rt, alloc, ports, spawner, log, at, watch, watcher)?;
     Ok(desk)
 }
 
 /// Serves the network whose settings stand in the file of that name: it loads the topologies that they name and shows them, listens
-/// at the port of each peer (RFC 5440, section 9.1), starts a task for each port, one that carries messages, one for each worker, and
+/// at the port of each peer (RFC 5440, section 9.1) or will dial it, starts a task for each, one that carries messages, one for each worker, and
 /// one that does what an operator's lines say; and where the settings have a port of watchers it listens there last, and starts a task
 /// that answers them. Then it tells the time, in so many turns.
 ///
-/// `files`, `input` and `out` are the operator's. What is said on `log` is a line for each task that was started, and `pce: ready`.
+/// `files`, `input` and `out` are the operator's. What is said on `log` is a line for each task that was started, and `pce: ready`;
+/// `at` is what it calls the addresses at which it listens.
 #[tactic(auto, using(crate::proofs::Starts::load_ends, crate::proofs::Starts::start_ends))]
 pub fn serve<T, Q, S, C, F, I, O, R, L>(
     rt: R,
@@ -129,6 +134,7 @@ pub fn serve<T, Q, S, C, F, I, O, R, L>(
     input: I,
     out: O,
     log: &mut L,
+    at: &str,
     turns: u64,
 ) -> Served
 where
@@ -149,7 +155,9 @@ where
         Ok(prepared) => prepared,
         Err(why) => return why,
     };
-    match start_network(rt, alloc, prepared, ports, spawner, files, input, out, log) {
+    match start_network(
+        rt, alloc, prepared, ports, spawner, files, input, out, log, at,
+    ) {
         Ok(mut desk) => {
             tell_ready(log);
             tick_on(&mut desk, clock, turns);

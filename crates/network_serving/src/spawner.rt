@@ -30,7 +30,7 @@ impl<T: Threads> Spawner<T> {
         I: Source + Send + Drop + 'static,
         O: Sink + Send + Drop + 'static,
         R: Wait + Clock + Send + Drop + 'static,
-        requires new { IsNew task }
+        requires new { IsNew K.heeds K.dialled_to task }
         ensures starts { Starts (duty_of K.opened_at task) result (started self.old) (started self.new) (faults_of self.old) (faults_of self.new) }
     {
         match self {

@@ -22,6 +22,7 @@ pub(crate) fn start<S, K, F, I, O, R, L>(
     alloc: Global,
     spawner: &mut Spawner<S>,
     log: &mut L,
+    at: &str,
     peers: &[PeerRow],
     task: Task<K, F, I, O, R>,
 ) -> Result<(), Served>
@@ -34,7 +35,7 @@ where
     O: Sink + Send + Drop + 'static,
     R: Wait + Clock + Copy + Send + Drop + 'static,
     L: Sink,
-    requires new { IsNew task }
+    requires new { IsNew K.heeds K.dialled_to task }
     ensures ok { OnOk result (started spawner.new ≡ started spawner.old ++ duty_of K.opened_at task ∷ []) }
     ensures err { IfErr result (IsUnstarted (faults_of spawner.old, faults_of spawner.new)) }
     ensures later { faults_of spawner.old ≤ faults_of spawner.new }
@@ -42,7 +43,7 @@ where
     let duty = task.duty(alloc)?;
     match spawner.start(task) {
         Begun::Started => {
-            tell_started(alloc, log, peers, &duty);
+            tell_started(alloc, log, at, peers, &duty);
             Ok(())
         }
         Begun::Failed => Err(Served::NoThread),
@@ -56,6 +57,7 @@ pub(crate) fn start_all<S, K, F, I, O, R, L>(
     alloc: Global,
     spawner: &mut Spawner<S>,
     log: &mut L,
+    at: &str,
     peers: &[PeerRow],
     tasks: Vec<Task<K, F, I, O, R>>,
 ) -> Result<(), Served>
@@ -68,13 +70,13 @@ where
     O: Sink + Send + Drop + 'static,
     R: Wait + Clock + Copy + Send + Drop + 'static,
     L: Sink,
-    requires new { All IsNew tasks.items }
+    requires new { All (IsNew K.heeds K.dialled_to) tasks.items }
     ensures ok { OnOk result (started spawner.new ≡ started spawner.old ++ map (duty_of K.opened_at) tasks.items) }
     ensures err { IfErr result (IsUnstarted (faults_of spawner.old, faults_of spawner.new)) }
     ensures later { faults_of spawner.old ≤ faults_of spawner.new }
 {
     for task in tasks {
-        start(alloc, spawner, log, peers, task)?;
+        start(alloc, spawner, log, at, peers, task)?;
     }
     Ok(())
 }

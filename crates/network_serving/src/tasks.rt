@@ -1,22 +1,24 @@
 //! The tasks of a program that serves a network.
 use cost_cache::Cache;
 use dom_base::{As, List};
-use plant_text::Network;
+use plant_text::{Comes, Network};
 use std::sync::Wait;
 use std::time::Clock;
 use ted_watch::{Publisher, Watcher};
-use turn_desk::TurnDesk;
+use turn_desk::{TurnDesk, WorkBench};
 
-/// What a thread does, with all that it does it with: nothing but the lock of the network is shared.
+/// What a thread does, with all that it does it with. Threads share the lock of the network, and the board by which they wake one
+/// another and by which no two workers solve one job; nothing of the board decides what a turn does.
 #[derive(Drop)]
 pub enum Task<K, F, I, O, R: Wait + Clock + Drop> {
-    /// Serves the connections of a peer, one after the other.
+    /// Serves the connections of a peer, one after the other. The listener heeds and dials whom `comes` says.
     Port {
         peer: u32,
+        comes: Comes,
         listener: K,
         desk: TurnDesk<R>,
     },
-    /// Carries messages along these ways.
+    /// Carries messages along these ways, where the board tells that one waits.
     Carry {
         links: List<(As, As)>,
         desk: TurnDesk<R>,
@@ -25,7 +27,7 @@ pub enum Task<K, F, I, O, R: Wait + Clock + Drop> {
     Work {
         index: u32,
         cache: Cache,
-        bench: TurnDesk<R>,
+        bench: WorkBench<R>,
     },
     /// Does what an operator's lines say. What its publisher has shown is of elements of the settings.
     Operate {

@@ -1,8 +1,8 @@
 //! What is said of tasks as they start. No clause speaks of these lines.
 use crate::duties::Duty;
-use dom_base::{NoMemory, write_number};
+use dom_base::{Addr, NoMemory, write_addr, write_number};
 use dom_edge::{Sink, write_all};
-use plant_text::PeerRow;
+use plant_text::{Comes, PeerRow};
 use std::alloc::Global;
 
 // A number between two texts.
@@ -18,11 +18,39 @@ fn write_around(
     Ok(())
 }
 
-// Who comes in at a port.
+// Behind an address: a port of it, and who has it.
 fn write_port(port: u16, who: &[u8], into: &mut Vec<u8>) -> Result<(), NoMemory> {
-    write_around(b"pce: listens at port ", u64::from(port), b" for ", into)?;
+    write_around(b" port ", u64::from(port), b" for ", into)?;
     into.extend_from_slice(who)?;
     Ok(())
+}
+
+// Who comes in at a port of this machine.
+fn write_listens(at: &str, port: u16, who: &[u8], into: &mut Vec<u8>) -> Result<(), NoMemory> {
+    into.extend_from_slice(b"pce: listens at ")?;
+    into.extend_from_slice(at.as_bytes())?;
+    write_port(port, who, into)
+}
+
+// Who is dialled, at a port of another machine.
+fn write_dials(to: Addr, port: u16, who: &[u8], into: &mut Vec<u8>) -> Result<(), NoMemory> {
+    into.extend_from_slice(b"pce: dials ")?;
+    write_addr(to, into)?;
+    into.extend_from_slice(b" at")?;
+    write_port(port, who, into)
+}
+
+fn write_peer(
+    at: &str,
+    port: u16,
+    comes: Comes,
+    who: &[u8],
+    into: &mut Vec<u8>,
+) -> Result<(), NoMemory> {
+    match comes {
+        Comes::Anyone | Comes::From(_) => write_listens(at, port, who, into),
+        Comes::Dialled(to) => write_dials(to, port, who, into),
+    }
 }
 
 fn name_of(peers: &[PeerRow], peer: u32) -> &[u8] {
@@ -32,9 +60,16 @@ fn name_of(peers: &[PeerRow], peer: u32) -> &[u8] {
     }
 }
 
-fn write_duty(peers: &[PeerRow], duty: &Duty, into: &mut Vec<u8>) -> Result<(), NoMemory> {
+fn write_duty(
+    at: &str,
+    peers: &[PeerRow],
+    duty: &Duty,
+    into: &mut Vec<u8>,
+) -> Result<(), NoMemory> {
     match duty {
-        Duty::Port(peer, port) => write_port(*port, name_of(peers, *peer), into),
+        Duty::Port(peer, port, comes) => {
+            write_peer(at, *port, *comes, name_of(peers, *peer), into)
+        }
         Duty::Carry(ways) => write_around(
             b"pce: carries messages over ",
             ways.len() as u64 / 2,
@@ -46,14 +81,20 @@ fn write_duty(peers: &[PeerRow], duty: &Duty, into: &mut Vec<u8>) -> Result<(), 
             into.extend_from_slice(b"pce: reads an operator's lines")?;
             Ok(())
         }
-        Duty::Watch(port) => write_port(*port, b"watchers", into),
+        Duty::Watch(port) => write_listens(at, *port, b"watchers", into),
     }
 }
 
-/// Says that a task of this duty was started, unless that can't be written.
-pub(crate) fn tell_started<L: Sink>(alloc: Global, log: &mut L, peers: &[PeerRow], duty: &Duty) {
+/// Says that a task of this duty was started, unless that can't be written. `at` is what the addresses are called that are listened at.
+pub(crate) fn tell_started<L: Sink>(
+    alloc: Global,
+    log: &mut L,
+    at: &str,
+    peers: &[PeerRow],
+    duty: &Duty,
+) {
     let mut text = Vec::new(alloc);
-    if write_duty(peers, duty, &mut text).is_ok() && text.push(b'\n').is_ok() {
+    if write_duty(at, peers, duty, &mut text).is_ok() && text.push(b'\n').is_ok() {
         let _ = write_all(log, &text);
     }
 }

@@ -55,7 +55,7 @@ impl<T: Threads> ThreadSpawner<T> {
         I: Source + Send + Drop + 'static,
         O: Sink + Send + Drop + 'static,
         R: Wait + Clock + Send + Drop + 'static,
-        requires new { IsNew task }
+        requires new { IsNew K.heeds K.dialled_to task }
         ensures starts { Starts (duty_of K.opened_at task) result self.old.duties self.new.duties self.old.faults self.new.faults }
     {
         let Ok(duty) = task.duty(self.alloc) else {
@@ -84,13 +84,13 @@ where
     I: Source + Send + Drop + 'static,
     O: Sink + Send + Drop + 'static,
     R: Wait + Clock + Send + Drop + 'static,
-    requires new { IsNew task }
+    requires new { IsNew K.heeds K.dialled_to task }
 {
     let mut task = task;
     thread::spawn(
         rt,
         move || -> Task<K, F, I, O, R>
-            requires { IsNew task }
+            requires { IsNew K.heeds K.dialled_to task }
         {
             task.run(alloc, TASK_TURNS);
             task

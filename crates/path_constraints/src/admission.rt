@@ -1,6 +1,8 @@
 //! What a link weighs, and whether a query allows it.
 ghost use Rattle.std.specs.Prelude.{◌≡◌, ◌↔◌, IsTrue};
 ghost use Rattle.dom_base.specs.Admission.{Allows, Fits, weight as weight_of};
+ghost use Rattle.dom_base.specs.declared.link.Link.{Link};
+ghost use Rattle.path_constraints.specs.Asking.{AsksNothing};
 
 use crate::bars::bars_link;
 use dom_base::{Link, Metric, Query};
@@ -36,4 +38,18 @@ pub fn allows(query: &Query, link: &Link) -> bool
     ensures { IsTrue result ↔ Allows query.now link.now }
 {
     fits(query, link) && !bars_link(query, link)
+}
+
+/// Whether a query asks nothing of a link. Asked once for many links, it spares the look at each
+/// of them: all are allowed. Exclusions that bar no link count as something asked.
+#[tactic(auto, using(crate::proofs::Free::all_allowed))]
+pub fn asks_nothing(query: &Query) -> bool
+    ensures asks { IsTrue result ↔ AsksNothing query.now }
+    ensures allowed { IsTrue result → (l : Link) → Allows query.now l }
+{
+    query.bandwidth == 0
+        && query.exclude_any == 0
+        && query.include_any == 0
+        && query.include_all == 0
+        && query.exclusions.is_empty()
 }

@@ -6,6 +6,6 @@ mod admission;
 mod bars;
 mod support;
 
-pub use admission::{allows, weight};
+pub use admission::{allows, asks_nothing, weight};
 pub use bars::{bars_link, bars_node};
 pub use support::{ExclusionError, copies_of_demands, find_unsupported, supported};

@@ -4,7 +4,6 @@ use Rattle.std.specs.Prelude.{Contains, bit_and, slice_get}
 use Rattle.std.proofs.lemmas.Bool.{cases_lt}
 use Rattle.std.proofs.lemmas.Bool.Decides.{eqb_tells}
 use Rattle.std.proofs.lemmas.List.Elements.{All-contains}
-use Rattle.std.proofs.lemmas.Option.{slice_get_within}
 use Rattle.dom_base.specs.Admission.{Fits, LiesIn, NamesLink, BarsLink, Allows, weight}
 use Rattle.dom_base.specs.declared.addr.Addr.{Addr}
 use Rattle.dom_base.specs.declared.addr.Addr.TheVariants.{V4, V6}
@@ -17,7 +16,7 @@ use Rattle.te_links.specs.Rows.{Rows, IsTopology, IsInnerLink}
 use Rattle.te_links.specs.Index.{LinkEndsAt}
 use Rattle.walk_laws.specs.Walks.{AdmitsNode}
 use Rattle.path_search.specs.declared.arc.Arc.{Arc}
-use Rattle.path_search.specs.Barred.{is_barred, AreBarred}
+use Rattle.path_search.specs.Asked.{is_barred, AreBarred}
 use Rattle.path_search.specs.Arcs.{CanLower}
 use Rattle.path_search.specs.Search.{IsArcOf, IsNoArc, IsIdle}
 use Rattle.std.specs.declared.option.Option.{Option}
@@ -146,7 +145,7 @@ link_or_none g q barred p l valid are at =
     open_at : (i : ℕ) (n : Addr) → slice_get g.nodes i ≡ Some n → is_barred barred i ≡ false → AdmitsNode g q n
     open_at i n at_i free = record {
       is_node = contains_at g.nodes i n at_i;
-      free = λ bars_it. let bad : false ≡ true = sym free ∙ (are.each i n (slice_get_within g.nodes i n at_i) at_i).1 bars_it in cc;
+      free = λ bars_it. let bad : false ≡ true = sym free ∙ (are i n at_i).1 bars_it in cc;
     }
 
     go : Decided (Allows q l) → (b : Bool) → is_barred barred tail.0 ≡ b → (c : Bool) → is_barred barred head.0 ≡ c → IsNoArc g q p ⊎ ((a : Arc) × IsArcOf g q p a)

@@ -1,5 +1,5 @@
 -- Costs in blocks, as one is put, and the least of them.
-use Rattle.std.proofs.Common.{◌≡◌, ◌≢◌, inl, inr, ℕ, ◌+◌, ◌-◌, ◌*◌, ◌/◌, ◌<◌, ◌≤◌, List, Bool, true, false, length, drop, take, map, replicate, min, arith, refl, sym, ◌∙◌, ap, subst, None, Some}
+use Rattle.std.proofs.Common.{◌≡◌, ◌≢◌, inl, inr, ℕ, ◌+◌, ◌-◌, ◌*◌, ◌/◌, ◌%◌, ◌<◌, ◌≤◌, List, Bool, true, false, length, drop, take, map, replicate, min, arith, refl, sym, ◌∙◌, ap, subst, None, Some}
 use Rattle.std.specs.Prelude.{slice_set, nat_lt}
 use Rattle.std.specs.declared.option.Option.{Option}
 use Rattle.std.proofs.lemmas.Bool.{cases_lt, cases_eq, lt-ltb, ltb-true}
@@ -10,16 +10,16 @@ use Rattle.dom_base.specs.declared.query.Label.{Label}
 use Rattle.path_search.specs.declared.blocks.TheConstants.{NOTHING}
 use Rattle.path_search.specs.Arcs.{label_at}
 use Rattle.path_search.specs.Front.{cost_of, cost_at, IsLeastAt}
-use Rattle.path_search.specs.Blocks.{num_at, cost_if, shown_cost, IsLeastNumber, IsLeastFrom, IsBlock, AreBlocks}
+use Rattle.path_search.specs.Blocks.{num_at, cost_if, shown_cost, IsLeastNumber, IsLeastFrom, IsBlock, AreBlocks, AreMarked}
 
-pub shown_is : (n m : ℕ) → shown_cost n ≡ Some m → n ≡ m
+pub shown_is : (n m : ℕ) → shown_cost n ≡ Some m → n / 32 ≡ m
 shown_is n m is = go (nat_lt n NOTHING) is
   where
-    go : (b : Bool) → cost_if b n ≡ Some m → n ≡ m
+    go : (b : Bool) → cost_if b n ≡ Some m → n / 32 ≡ m
     go true same = cc
     go false bad = cc
 
-pub shown_below : (n : ℕ) → n < NOTHING → shown_cost n ≡ Some n
+pub shown_below : (n : ℕ) → n < NOTHING → shown_cost n ≡ Some (n / 32)
 shown_below n below = ap (λ b. cost_if b n) (lt-ltb n NOTHING below)
 
 pub shown_none : (n : ℕ) → NOTHING ≤ n → shown_cost n ≡ None
@@ -33,11 +33,11 @@ pub shown_small : (n m : ℕ) → shown_cost n ≡ Some m → m < NOTHING
 shown_small n m is = go (nat_lt n NOTHING) refl is
   where
     go : (b : Bool) → nat_lt n NOTHING ≡ b → cost_if b n ≡ Some m → m < NOTHING
-    go true lt same = let below = ltb-true n NOTHING lt in let one : n ≡ m = cc in omega (arith, below, one)
+    go true lt same = let below = ltb-true n NOTHING lt in let one : n / 32 ≡ m = cc in omega (arith, below, one)
     go false lt bad = cc
 
 pub shown_great : (n : ℕ) → shown_cost n ≡ None → NOTHING ≤ n
-shown_great n is = elim (cases_lt n NOTHING) [ inl below ↦ let bad : Some n ≡ None = sym (shown_below n below) ∙ is in cc | inr past ↦ past ]
+shown_great n is = elim (cases_lt n NOTHING) [ inl below ↦ let bad : Some (n / 32) ≡ None = sym (shown_below n below) ∙ is in cc | inr past ↦ past ]
 
 -- the cost at a place
 pub shown_at : (costs : List ℕ) (i : ℕ) → cost_at (map shown_cost costs) i ≡ shown_cost (num_at costs i)
@@ -65,11 +65,11 @@ least_below costs least lowest j blocks is small = elim (cases_lt j (length cost
 ]
 
 pub least_at : (costs least : List ℕ) (lowest place : ℕ) → AreBlocks costs least → IsLeastNumber least lowest → lowest < NOTHING → num_at costs place ≡ lowest →
-    IsLeastAt (map shown_cost costs) place lowest
+    IsLeastAt (map shown_cost costs) place (lowest / 32)
 least_at costs least lowest place blocks is small at = record {
   at = shown_at costs place ∙ (ap shown_cost at ∙ shown_below lowest small);
   least = λ j m at_j.
-      let number : num_at costs j ≡ m = shown_is (num_at costs j) m (sym (shown_at costs j) ∙ at_j) in
+      let number : num_at costs j / 32 ≡ m = shown_is (num_at costs j) m (sym (shown_at costs j) ∙ at_j) in
       let bound = least_below costs least lowest j blocks is (omega (arith, small)) in
       omega (arith, number, bound);
 }
@@ -168,6 +168,26 @@ kept costs place number start least below no_less differs is = record {
       };
 }
 
+-- a number is put that tells its place
+pub put_marked : (costs : List ℕ) (place number : ℕ) → AreMarked costs → place < length costs → (number < NOTHING → number % 32 ≡ place % 32) → AreMarked (slice_set costs place number)
+put_marked costs place number are below tells i small = elim (cases_eq i place) [
+  | inl one ↦
+      let here : num_at (slice_set costs place number) i ≡ number = ap (num_at (slice_set costs place number)) one ∙ get_or-set_same costs place number NOTHING below in
+      omega (arith, here, one, tells (omega (arith, here, small)))
+  | inr other ↦
+      let same : num_at (slice_set costs place number) i ≡ num_at costs i = get_or-set_other costs place i number NOTHING other in
+      omega (arith, same, are i (omega (arith, same, small)))
+]
+
+-- the least tells its place
+pub told_place : (costs : List ℕ) (block lowest : ℕ) → AreMarked costs → IsLeastFrom costs (block * 32) lowest → lowest < NOTHING →
+    (num_at costs (block * 32 + lowest % 32) ≡ lowest)
+told_place costs block lowest are is small =
+    let s = is.stands small in
+    let mark : num_at costs s.place % 32 ≡ s.place % 32 = are s.place (omega (arith, s.at, small)) in
+    let there : block * 32 + lowest % 32 ≡ s.place = omega (arith, s.at, s.from, s.to, mark) in
+    ap (num_at costs) there ∙ s.at
+
 -- one block has a new least, the others keep theirs
 pub put_blocks : (costs least next : List ℕ) (place number block top : ℕ) → AreBlocks costs least → block ≡ place / 32 → length next ≡ length least →
     num_at next block ≡ top → ((b : ℕ) → b ≢ block → num_at next b ≡ num_at least b) → IsLeastFrom (slice_set costs place number) (block * 32) top →
@@ -205,6 +225,9 @@ no_blocks n =
         stands = λ small. absurd (omega (arith, small, nothing_at (n / 32 + 1) b));
       };
     }
+
+pub none_marked : (n : ℕ) → AreMarked (replicate n NOTHING)
+none_marked n i small = absurd (omega (arith, small, nothing_at n i))
 
 pub all_nothing : (n : ℕ) → map shown_cost (replicate n NOTHING) ≡ replicate n None
 all_nothing n =

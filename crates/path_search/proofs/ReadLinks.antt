@@ -23,7 +23,7 @@ use Rattle.path_search.specs.declared.arc.Arc.{Arc}
 use Rattle.path_search.specs.Arcs.{label_at, IsArcAmong, IsWithin, joined, IsBelow}
 use Rattle.path_search.specs.Search.{IsArcOf, IsNoArc}
 use Rattle.path_search.specs.Front.{cost_of, cost_at, is_done, IsFront, IsLeastAt, Spreads}
-use Rattle.path_search.specs.Barred.{AreBarred}
+use Rattle.path_search.specs.Asked.{AreBarred}
 use Rattle.path_search.specs.Reached.{EndsAtLabel}
 use Rattle.path_search.specs.Reading.{IsReading, IsHeadDone, IsOpened, IsResting, IsSpreading, SpreadsLink}
 use Rattle.walk_laws.specs.Certificate.{AtMost}

@@ -1,5 +1,5 @@
--- Costs as numbers, in blocks of 32, each with its least.
-use Rattle.std.specs.Prelude.{◌≡◌, ◌<◌, ◌≤◌, ◌+◌, ◌*◌, ◌^◌, ℕ, List, Bool, true, false, length, map, nat_lt, None, Some, slice_index_or}
+-- Costs as numbers, in blocks of 32, each with its least: a number is the cost times 32, and the place in the block.
+use Rattle.std.specs.Prelude.{◌≡◌, ◌<◌, ◌≤◌, ◌+◌, ◌*◌, ◌/◌, ◌%◌, ◌^◌, ℕ, List, Bool, true, false, length, map, nat_lt, None, Some, slice_index_or}
 use Rattle.std.specs.declared.option.Option.{Option}
 use Rattle.path_search.specs.declared.blocks.TheConstants.{NOTHING}
 use Rattle.path_search.specs.declared.waiting.Waiting.TheInside.{Inside}
@@ -10,7 +10,7 @@ num_at numbers i = slice_index_or numbers i NOTHING
 
 -- the cost that a number stands for; the last one stands for none
 abbrev pub cost_if : Bool → ℕ → Option ℕ
-cost_if true n = Some n
+cost_if true n = Some (n / 32)
 cost_if false n = None
 
 abbrev pub shown_cost : ℕ → Option ℕ
@@ -45,8 +45,13 @@ pub record AreBlocks (costs least : List ℕ) : Type 0 where
   pub no_further : length least * 32 ≤ length costs + 32
   pub each : (b : ℕ) → b < length least → IsLeastFrom costs (b * 32) (num_at least b)
 
+-- a number that stands for a cost tells its place in the block
+abbrev pub AreMarked : List ℕ → Type 0
+AreMarked costs = (i : ℕ) → num_at costs i < NOTHING → num_at costs i % 32 ≡ i % 32
+
 pub record HoldsBlocks (w : Inside) : Type 0 where
   pub blocks : AreBlocks w.costs.items w.least.items
+  pub marked : AreMarked w.costs.items
   pub short : length w.costs.items < 2 ^ 31
 
 -- the costs that wait

@@ -1,7 +1,8 @@
-//! Costs in blocks, each with its least.
-ghost use Rattle.std.specs.Prelude.{◌≡◌, ◌≢◌, ◌<◌, ◌≤◌, ◌^◌, ◌*◌, ℕ, length, map, slice_set, MatchOption};
+//! Costs in blocks, each with its least, which tells its place.
+ghost use Rattle.std.specs.Prelude.{◌≡◌, Some, ◌≢◌, ◌<◌, ◌≤◌, ◌^◌, ◌*◌, ◌%◌, ℕ, length, map, slice_set, MatchOption};
 ghost use Rattle.path_search.specs.Front.{HoldsLeast};
-ghost use Rattle.path_search.specs.Blocks.{AreBlocks, IsBlock, IsLeastNumber, num_at, shown_cost};
+ghost use Rattle.path_search.specs.Blocks.{AreBlocks, AreMarked, IsBlock, IsLeastNumber, num_at, shown_cost};
+ghost use Rattle.path_search.specs.declared.blocks.TheConstants.{NOTHING};
 
 use dom_base::Cost;
 
@@ -49,12 +50,21 @@ fn block_of(costs: &[u32], block: usize) -> &[u32]
     &costs[start..end]
 }
 
-// The number that stands for a cost.
-fn number_of(cost: &Option<Cost>) -> u32
-    ensures { shown_cost result ≡ cost.now }
+// The number that stands for a cost, with the place in its block.
+fn marked(cost: Cost, place: usize) -> u32
+    ensures cost { shown_cost result ≡ Some cost }
+    ensures mark { result % 32 ≡ place % 32 }
+{
+    cost.get() * BLOCK as u32 + (place % BLOCK) as u32
+}
+
+// The number that stands for a cost at a place.
+fn number_of(cost: &Option<Cost>, place: usize) -> u32
+    ensures cost { shown_cost result ≡ cost.now }
+    ensures mark { result < NOTHING → result % 32 ≡ place % 32 }
 {
     match cost {
-        Some(cost) => cost.get(),
+        Some(cost) => marked(*cost, place),
         None => NOTHING,
     }
 }
@@ -62,14 +72,16 @@ fn number_of(cost: &Option<Cost>) -> u32
 /// Puts a cost at a place. Where the same stands there already, no block is looked through.
 pub(crate) fn set_cost(costs: &mut [u32], least: &mut [u32], place: usize, cost: &Option<Cost>)
     requires blocks { AreBlocks costs.old least.old }
+    requires marked { AreMarked costs.old }
     requires short { length costs.old < 2 ^ 31 }
     requires place { place < length costs.old }
     ensures blocks { AreBlocks costs.new least.new }
+    ensures marked { AreMarked costs.new }
     ensures costs { map shown_cost costs.new ≡ slice_set (map shown_cost costs.old) place cost.now }
     ensures long { length costs.new ≡ length costs.old }
 {
     let block = place / BLOCK;
-    let number = number_of(cost);
+    let number = number_of(cost, place);
     let was = costs[place];
     if number == was {
         return;
@@ -83,10 +95,11 @@ pub(crate) fn set_cost(costs: &mut [u32], least: &mut [u32], place: usize, cost:
 }
 
 /// The place of a least cost.
-pub(crate) fn least_place(costs: &[u32], least: &[u32]) -> Option<u32>
-    requires blocks { AreBlocks costs.now least.now }
-    requires short { length costs.now < 2 ^ 31 }
-    ensures { HoldsLeast (map shown_cost costs.now) result }
+pub(crate) fn least_place(_costs: &[u32], least: &[u32]) -> Option<u32>
+    requires blocks { AreBlocks _costs.now least.now }
+    requires marked { AreMarked _costs.now }
+    requires short { length _costs.now < 2 ^ 31 }
+    ensures { HoldsLeast (map shown_cost _costs.now) result }
 {
     let lowest = least_of(least);
     if lowest == NOTHING {
@@ -95,8 +108,5 @@ pub(crate) fn least_place(costs: &[u32], least: &[u32]) -> Option<u32>
     let Some(block) = place_of(least, lowest) else {
         unreachable!()
     };
-    let Some(place) = place_of(block_of(costs, block), lowest) else {
-        unreachable!()
-    };
-    Some((block * BLOCK + place) as u32)
+    Some((block * BLOCK) as u32 + lowest % BLOCK as u32)
 }

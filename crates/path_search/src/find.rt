@@ -2,19 +2,18 @@
 ghost use Rattle.std.specs.Prelude.{◌≡◌, ◌<◌, ◌≤◌, ◌+◌, false, replicate, length, IfOk, MatchOption};
 ghost use Rattle.te_links.specs.Rows.{IsTopology};
 ghost use Rattle.te_links.specs.Index.{LinkEndsAt};
-ghost use Rattle.path_search.specs.Barred.{AreBarred};
+ghost use Rattle.path_search.specs.Asked.{IsAsked};
 ghost use Rattle.path_search.specs.Reached.{ReadsReached};
 ghost use Rattle.path_search.specs.Search.{IsArcOf, IsIdle, AreLabels};
 
 use crate::arc::Arc;
-use crate::barred::{barred_nodes, bars_ends};
+use crate::asked::{Asked, allows_link, asked_by, bars_ends};
 use crate::labels::Labels;
-use crate::settle::can_lower;
 use crate::spread::settle_all;
 use crate::starts::starts_of;
 use crate::waiting::Waiting;
-use dom_base::{Label, NoMemory, Query, Seed};
-use path_constraints::{allows, weight};
+use dom_base::{NoMemory, Query, Seed};
+use path_constraints::weight;
 use std::alloc::Global;
 use te_links::Links;
 
@@ -24,14 +23,14 @@ use te_links::Links;
 pub(crate) fn arc_of<'a, G: Links<'a>>(
     links: &mut G,
     query: &Query,
-    barred: &[bool],
-    labels: &[Option<Label>],
+    asked: &Asked,
+    labels: &Labels,
     head: u32,
     index: u32,
 ) -> Option<Arc>
     requires rules { IsTopology (G.rows links.old) }
     requires index { index < length (G.rows links.old).links }
-    requires barred { AreBarred (G.rows links.old) query.now barred.now }
+    requires asked { IsAsked (G.rows links.old) query.now asked.now }
     requires ends { LinkEndsAt (G.rows links.old).nodes (G.rows links.old).links head index }
     requires labels { length labels.now ≡ length (G.rows links.old).nodes }
     ensures arc { MatchOption result (IsIdle (G.rows links.old) query.now labels.now index) (IsArcOf (G.rows links.old) query.now index) }
@@ -39,10 +38,10 @@ pub(crate) fn arc_of<'a, G: Links<'a>>(
     ensures reads { G.reads links.new ≤ G.reads links.old + 1 }
 {
     let (link, tail) = links.link_with_tail(index);
-    if !can_lower(labels, tail, head) {
+    if !labels.can_lower(tail, head) {
         return None;
     }
-    if !allows(query, link) || bars_ends(barred, tail, head) {
+    if !allows_link(asked, query, link) || bars_ends(asked, tail, head) {
         return None;
     }
     Some(Arc {
@@ -76,9 +75,9 @@ pub fn search<'a, G: Links<'a>>(
     ensures reached { IfOk result (λ labels. ReadsReached (G.rows links.old) labels (G.reads links.old) (G.reads links.new)) }
 {
     let mut labels = starts_of(alloc, links, query, seeds)?;
-    let barred = barred_nodes(alloc, links, query)?;
+    let asked = asked_by(alloc, links, query)?;
     let mut waiting = Waiting::of(alloc, &labels)?;
     let mut done = none_settled(alloc, labels.len())?;
-    settle_all(links, query, &barred, &mut labels, &mut waiting, &mut done);
-    Ok(Labels::of(labels))
+    settle_all(links, query, &asked, &mut labels, &mut waiting, &mut done);
+    Ok(labels)
 }

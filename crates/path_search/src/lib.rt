@@ -2,13 +2,14 @@
 #![tactic(auto)]
 
 mod arc;
-mod barred;
+mod asked;
 mod blocks;
 mod chosen;
+mod exits;
 mod find;
 mod labels;
 mod opened;
-mod settle;
+mod short;
 mod shown;
 mod spread;
 mod starts;

@@ -3,28 +3,29 @@ ghost use Rattle.std.specs.Prelude.{◌≡◌, ◌<◌, ◌≤◌, ◌+◌, ℕ,
 ghost use Rattle.te_links.specs.Rows.{IsTopology};
 ghost use Rattle.te_links.specs.Index.{LinkEndsAt};
 ghost use Rattle.path_search.specs.Arcs.{IsArcAmong, IsWithin};
-ghost use Rattle.path_search.specs.Barred.{AreBarred};
+ghost use Rattle.path_search.specs.Asked.{IsAsked};
 ghost use Rattle.path_search.specs.Front.{cost_of, is_done, Spreads};
 ghost use Rattle.path_search.specs.Reached.{ReadsReached};
 ghost use Rattle.path_search.specs.Reading.{SpreadsLink, SpreadsNode, FindsLabels};
 
 use crate::arc::Arc;
+use crate::asked::Asked;
 use crate::find::arc_of;
-use crate::settle::relax;
-use crate::waiting::{Waiting, cost_from};
-use dom_base::{Cost, Label, Query};
+use crate::labels::Labels;
+use crate::waiting::Waiting;
+use dom_base::{Cost, Query};
 use te_links::Links;
 
 // Relaxes an arc. A node whose label is lowered waits.
-fn spread_arc(cap: Cost, arc: Arc, labels: &mut [Option<Label>], waiting: &mut Waiting)
+fn spread_arc(cap: Cost, arc: Arc, labels: &mut Labels, waiting: &mut Waiting)
     requires among { IsArcAmong (length labels.old) arc }
     requires as_long { length waiting.old ≡ length labels.old }
     ensures spreads { Spreads cap arc labels.old labels.new waiting.old waiting.new }
     ensures labels { length labels.new ≡ length labels.old }
     ensures waiting { length waiting.new ≡ length waiting.old }
 {
-    if relax(cap, arc, labels) {
-        waiting.put(arc.tail, cost_from(labels, arc.tail));
+    if labels.relax(cap, arc) {
+        waiting.put(arc.tail, labels.cost_at(arc.tail));
     }
 }
 
@@ -32,14 +33,14 @@ fn spread_arc(cap: Cost, arc: Arc, labels: &mut [Option<Label>], waiting: &mut W
 fn spread_link<'a, G: Links<'a>>(
     links: &mut G,
     query: &Query,
-    barred: &[bool],
+    asked: &Asked,
     head: u32,
     index: u32,
-    labels: &mut [Option<Label>],
+    labels: &mut Labels,
     waiting: &mut Waiting,
 )
     requires rules { IsTopology (G.rows links.old) }
-    requires barred { AreBarred (G.rows links.old) query.now barred.now }
+    requires asked { IsAsked (G.rows links.old) query.now asked.now }
     requires index { index < length (G.rows links.old).links }
     requires ends { LinkEndsAt (G.rows links.old).nodes (G.rows links.old).links head index }
     requires labels { length labels.old ≡ length (G.rows links.old).nodes }
@@ -50,7 +51,7 @@ fn spread_link<'a, G: Links<'a>>(
     ensures same { G.rows links.new ≡ G.rows links.old }
     ensures reads { G.reads links.new ≤ G.reads links.old + 1 }
 {
-    if let Some(arc) = arc_of(links, query, barred, labels, head, index) {
+    if let Some(arc) = arc_of(links, query, asked, labels, head, index) {
         spread_arc(query.cap, arc, labels, waiting);
     }
 }
@@ -59,13 +60,13 @@ fn spread_link<'a, G: Links<'a>>(
 pub(crate) fn spread_node<'a, G: Links<'a>>(
     links: &mut G,
     query: &Query,
-    barred: &[bool],
+    asked: &Asked,
     place: u32,
-    labels: &mut [Option<Label>],
+    labels: &mut Labels,
     waiting: &mut Waiting,
 )
     requires rules { IsTopology (G.rows links.old) }
-    requires barred { AreBarred (G.rows links.old) query.now barred.now }
+    requires asked { IsAsked (G.rows links.old) query.now asked.now }
     requires place { place < length (G.rows links.old).nodes }
     requires labels { length labels.old ≡ length (G.rows links.old).nodes }
     requires as_long { length waiting.old ≡ length labels.old }
@@ -76,7 +77,7 @@ pub(crate) fn spread_node<'a, G: Links<'a>>(
 {
     let places = links.links_into(place);
     for index in places {
-        spread_link(links, query, barred, place, *index, labels, waiting);
+        spread_link(links, query, asked, place, *index, labels, waiting);
     }
 }
 
@@ -84,13 +85,13 @@ pub(crate) fn spread_node<'a, G: Links<'a>>(
 pub(crate) fn settle_all<'a, G: Links<'a>>(
     links: &mut G,
     query: &Query,
-    barred: &[bool],
-    labels: &mut [Option<Label>],
+    asked: &Asked,
+    labels: &mut Labels,
     waiting: &mut Waiting,
     done: &mut [bool],
 )
     requires rules { IsTopology (G.rows links.old) }
-    requires barred { AreBarred (G.rows links.old) query.now barred.now }
+    requires asked { IsAsked (G.rows links.old) query.now asked.now }
     requires labels { length labels.old ≡ length (G.rows links.old).nodes }
     requires within { All (IsWithin query.now.cap) labels.old }
     requires all_wait { waiting.old ≡ map cost_of labels.old }
@@ -105,6 +106,6 @@ pub(crate) fn settle_all<'a, G: Links<'a>>(
     while let Some(place) = waiting.least() {
         waiting.put(place, None);
         done[place as usize] = true;
-        spread_node(links, query, barred, place, labels, waiting);
+        spread_node(links, query, asked, place, labels, waiting);
     }
 }

@@ -1,11 +1,11 @@
 //! The nodes that wait to be settled, the least first.
 ghost use Rattle.std.specs.Prelude.{◌≡◌, ◌<◌, ◌^◌, length, map, replicate, slice_set, None, IfOk};
-ghost use Rattle.path_search.specs.Arcs.{label_at};
 ghost use Rattle.path_search.specs.Front.{cost_of, HoldsLeast};
 ghost use Rattle.path_search.specs.declared.blocks.TheConstants.{NOTHING};
 
 use crate::blocks::{BLOCK, NOTHING, least_place, set_cost};
-use dom_base::{Cost, Label, NoMemory};
+use crate::labels::Labels;
+use dom_base::{Cost, NoMemory};
 use std::alloc::Global;
 use std::marker::Model;
 
@@ -13,30 +13,6 @@ fn no_costs(alloc: Global, count: usize) -> Result<Vec<u32>, NoMemory>
     ensures { IfOk result (λ costs. costs.items ≡ replicate count NOTHING) }
 {
     Ok(vec![in alloc; NOTHING; count]?)
-}
-
-fn label_of(labels: &[Option<Label>], place: u32) -> Option<Label>
-    requires { place < length labels.now }
-    ensures { result ≡ label_at labels.now place }
-{
-    labels[place as usize]
-}
-
-fn cost_of_label(label: &Option<Label>) -> Option<Cost>
-    ensures { result ≡ cost_of label.now }
-{
-    match label {
-        Some(label) => Some(label.cost),
-        None => None,
-    }
-}
-
-/// The cost of the label at a place.
-pub(crate) fn cost_from(labels: &[Option<Label>], place: u32) -> Option<Cost>
-    requires { place < length labels.now }
-    ensures { result ≡ cost_of (label_at labels.now place) }
-{
-    cost_of_label(&label_of(labels, place))
 }
 
 /// The costs of the nodes that wait to be settled, by their places, in blocks that each know their
@@ -71,13 +47,13 @@ impl Waiting {
         Ok(Waiting { costs, least })
     }
 
-    pub(crate) fn of(alloc: Global, labels: &[Option<Label>]) -> Result<Waiting, NoMemory>
+    pub(crate) fn of(alloc: Global, labels: &Labels) -> Result<Waiting, NoMemory>
         requires { length labels.now < 2 ^ 31 }
         ensures { IfOk result (λ waiting. waiting ≡ map cost_of labels.now) }
     {
         let mut waiting = Waiting::none(alloc, labels.len())?;
         for i in 0..labels.len() as u32 {
-            if let Some(cost) = cost_from(labels, i) {
+            if let Some(cost) = labels.cost_at(i) {
                 waiting.put(i, Some(cost));
             }
         }

@@ -43,7 +43,7 @@ bulk N              draws a large network and N requests (1 to 8000), writes wha
 --version           writes the versions of the program and of the toolchain
 
 Files that settings and scripts name are looked for in the folder of the settings. `serve` listens at
-the address in the variable PCE_LISTEN, or without it at all addresses of the machine.
+the address in the variable PCE_LISTEN (`all` for all of the machine), or without it at 127.0.0.1.
 ";
 
 const VERSION: &str = "pce 0.1.0, proved with rattle-kit-13f logic dac8208d650f15bf\n";

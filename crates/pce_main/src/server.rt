@@ -13,8 +13,10 @@ use std::time::Clock;
 /// How the command ended, with its number and its text.
 #[derive(Drop)]
 pub enum Ended {
-    /// The words, or the address in the environment, are no command's.
+    /// The words are no command's.
     Usage,
+    /// What PCE_LISTEN has is no address.
+    NoAddress(String),
     Served(Served),
 }
 
@@ -22,7 +24,7 @@ impl Ended {
     /// The exit status.
     pub(crate) fn number(&self) -> u8 {
         match self {
-            Ended::Usage => 1,
+            Ended::Usage | Ended::NoAddress(_) => 1,
             Ended::Served(Served::Turns) => 0,
             Ended::Served(Served::ReadFault) => 2,
             Ended::Served(Served::BadNetwork { .. }) => 4,
@@ -47,6 +49,7 @@ impl fmt::Display for Ended {
     fn fmt<W: fmt::Write>(&self, f: &mut fmt::Formatter<W>) -> fmt::Result {
         match self {
             Ended::Usage => write!(f, "usage"),
+            Ended::NoAddress(text) => write!(f, "PCE_LISTEN is no address: {text}"),
             Ended::Served(Served::Turns) => write!(f, "ok"),
             Ended::Served(Served::ReadFault) => write!(f, "read fault"),
             Ended::Served(Served::BadNetwork { file, line, fault }) => fmt_bad(
@@ -60,14 +63,29 @@ impl fmt::Display for Ended {
     }
 }
 
-// The address at which it listens: that in PCE_LISTEN, or where there is none all of the machine.
-fn address_of(rt: &HostRuntime) -> Option<IpAddr> {
+// Where it listens without PCE_LISTEN: this machine alone can connect there.
+const LOOPBACK: &str = "127.0.0.1";
+
+// Where PCE_LISTEN says that it listens.
+fn listen_text(rt: &HostRuntime) -> Result<String, Ended> {
     match env::var(rt, "PCE_LISTEN") {
-        Ok(text) => match text.as_str().parse::<IpAddr>() {
-            Ok(address) => Some(address),
-            Err(_) => None,
+        Ok(text) => Ok(text),
+        Err(VarError::NotPresent) => match LOOPBACK.to_string(rt.alloc()) {
+            Ok(text) => Ok(text),
+            Err(_) => Err(Ended::Served(Served::NoMemory)),
         },
-        Err(VarError::NotPresent) => Some(IpAddr::V6(Ipv6Addr::UNSPECIFIED)),
+        Err(VarError::NotUnicode) => Err(Ended::NoAddress(String::new(rt.alloc()))),
+        Err(VarError::OutOfMemory) => Err(Ended::Served(Served::NoMemory)),
+    }
+}
+
+// The address of that text, and what it is called: `all` are all of the machine.
+fn place_of(text: &str) -> Option<(IpAddr, &str)> {
+    if text == "all" {
+        return Some((IpAddr::V6(Ipv6Addr::UNSPECIFIED), "all addresses"));
+    }
+    match text.parse::<IpAddr>() {
+        Ok(address) => Some((address, text)),
         Err(_) => None,
     }
 }
@@ -77,8 +95,12 @@ pub(crate) fn serve_network<R>(rt: &HostRuntime, threads: R, settings: &str) -> 
 where
     R: Threads + Wait + Clock + Copy + Send + Drop + 'static,
 {
-    let Some(address) = address_of(rt) else {
-        return Ended::Usage;
+    let text = match listen_text(rt) {
+        Ok(text) => text,
+        Err(ended) => return ended,
+    };
+    let Some((address, at)) = place_of(text.as_str()) else {
+        return Ended::NoAddress(text);
     };
     let alloc = rt.alloc();
     let mut spawner: Spawner<R> = Spawner::Threads(ThreadSpawner::new(threads, alloc));
@@ -87,13 +109,14 @@ where
         alloc,
         settings,
         &mut FileStore::new(alloc, *rt),
-        &mut SocketPorts::new(*rt, address),
+        &mut SocketPorts::new(*rt, alloc, address),
         &mut spawner,
         &mut WallClock::new(*rt),
         FileStore::new(alloc, *rt),
         InputSource::new(rt.reader()),
         OutputSink::new(rt.stdout()),
         &mut OutputSink::new(rt.stderr()),
+        at,
         u64::MAX,
     ))
 }

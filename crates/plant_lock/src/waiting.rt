@@ -5,13 +5,13 @@ use std::time::{Clock, Duration};
 
 /// How often a caller waits without a ticket. It sleeps in most of these waits, so it draws a ticket after a quarter of a
 /// second at the latest.
-pub(crate) const PATIENCE: u32 = 64;
+pub(crate) const PATIENCE: u32 = 1_000;
 
 // How often the loop of a spin turns, by the number of the wait.
 const SPINS: [u32; 6] = [8, 16, 32, 64, 128, 256];
 
 // How long a caller sleeps, in microseconds, by the number of the sleep; longer waits are as the last.
-const NAPS: [u64; 7] = [60, 120, 250, 500, 1_000, 2_000, 4_000];
+const NAPS: [u64; 3] = [60, 120, 250];
 
 // The last wait that is a yield.
 const YIELDS: usize = 9;

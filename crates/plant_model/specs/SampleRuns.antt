@@ -1,7 +1,7 @@
 -- Runs of sample networks, and what comes of them.
 use Rattle.std.specs.Prelude.{◌≡◌, ℕ, ◌+◌, Bool, nat_eq, true, false, List, [], ◌∷◌, ◌++◌, Option, Some, None, option_map}
 use Rattle.std.specs.Map.{lookup}
-use Rattle.plant_model.specs.Types.{As, Link, Hop, Message, Path, Best, NetworkParts, ElementRow}
+use Rattle.plant_model.specs.Types.{As, Link, Hop, Message, Path, Best, NetworkParts, ElementRow, PeerRow, Class}
 use Rattle.dom_base.specs.declared.addr.Addr.TheVariants.{V4, V6}
 use Rattle.te_links.specs.Rows.{Rows}
 use Rattle.pcep_objects.specs.declared.object.Body.TheVariants as bodies
@@ -10,6 +10,7 @@ use Rattle.pcep_subobjects.specs.Hops.{strict_hop}
 use Rattle.pcep_messages.specs.declared.message.Message.TheVariants as messages
 use Rattle.pcep_messages.specs.declared.message.Answer.TheVariants.{Paths, NoPath}
 use Rattle.disclosure.specs.declared.class.Class.TheVariants.{Client, Neighbour}
+use Rattle.plant_text.specs.declared.settings.Comes.TheVariants.{Anyone}
 use Rattle.plant_model.specs.declared.event.Event.TheVariants as event
 use Rattle.plant_model.specs.Writing.{needed, reply_message, unavailable, no_key}
 use Rattle.plant_model.specs.RealWire.{wire}
@@ -20,14 +21,17 @@ use Rattle.plant_model.specs.Samples.{Act, Do, Solve, Join, act, answers, after,
 abbrev pub element : ℕ → Bool → ElementRow
 element d parent = record { own = As_ d; id = V4 (200 + d); topology = None; key_life = 600; parent = parent }
 
+-- an outside peer of an element, by its class, its port, and whether paths go on through it
+abbrev pub peer : ℕ → Class → ℕ → Bool → PeerRow
+peer d class port down = record { name = []; at = As_ d; class = class; port = port; comes = Anyone; down = down; patience = None; pending = None; keys = None; capability = false }
+
 -- ---- three domains, each linked with the others; two clients of the first, a client and a neighbour of the second
 
 abbrev pub three : NetworkParts
 three = record {
   elements = element 1 false ∷ element 2 false ∷ element 3 false ∷ [];
   links = (As_ 1, As_ 2) ∷ (As_ 1, As_ 3) ∷ (As_ 2, As_ 3) ∷ [];
-  peers = record { name = []; at = As_ 1; class = Client true; port = 1; down = false } ∷ record { name = []; at = As_ 1; class = Client true; port = 2; down = false }
-      ∷ record { name = []; at = As_ 2; class = Client true; port = 3; down = false } ∷ record { name = []; at = As_ 2; class = Neighbour (As_ 7); port = 4; down = false } ∷ [];
+  peers = peer 1 (Client true) 1 false ∷ peer 1 (Client true) 2 false ∷ peer 2 (Client true) 3 false ∷ peer 2 (Neighbour (As_ 7)) 4 false ∷ [];
   deny = [];
   parent = None;
   parent_links = [];
@@ -135,7 +139,7 @@ abbrev pub outward : NetworkParts
 outward = record {
   elements = element 1 false ∷ [];
   links = [];
-  peers = record { name = []; at = As_ 1; class = Client true; port = 1; down = false } ∷ record { name = []; at = As_ 1; class = Neighbour (As_ 2); port = 2; down = true } ∷ [];
+  peers = peer 1 (Client true) 1 false ∷ peer 1 (Neighbour (As_ 2)) 2 true ∷ [];
   deny = [];
   parent = None;
   parent_links = [];
@@ -179,7 +183,7 @@ abbrev pub family : NetworkParts
 family = record {
   elements = element 1 true ∷ element 2 true ∷ [];
   links = [];
-  peers = record { name = []; at = As_ 1; class = Client true; port = 1; down = false } ∷ [];
+  peers = peer 1 (Client true) 1 false ∷ [];
   deny = [];
   parent = Some (V4 200);
   parent_links = record { from_as = As_ 1; to_as = As_ 2; link = link } ∷ [];

@@ -1,4 +1,5 @@
 //! What may be done to a network in a turn, and what it answers.
+use crate::stirred::Stirred;
 use crate::topologies::Plant;
 use dom_base::{As, NoMemory};
 use network_events::model::{Event, Outcome, Refused};
@@ -32,10 +33,11 @@ pub enum Acted {
     Mapped(Result<Option<(u64, Arc<Topology>)>, NoMemory>),
 }
 
-/// The answer to an act, and the network that the act left. Contracts alone speak of that: a solve leaves a choice,
-/// and no answer shows all of it.
+/// The answer to an act, the network that the act left, and whom it stirred. Contracts alone speak of what is left: a solve leaves a
+/// choice, and no answer shows all of it.
 #[derive(Drop)]
 pub struct ActAnswer {
     pub acted: Acted,
     pub left: Snapshot<Plant>,
+    pub stirred: Stirred,
 }

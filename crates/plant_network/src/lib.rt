@@ -10,6 +10,7 @@ mod due;
 mod events;
 mod histories;
 mod network;
+mod stirred;
 mod topologies;
 mod turned;
 
@@ -20,4 +21,5 @@ pub use histories::histories_are_runs;
 pub use network::Network;
 pub use network_events::model;
 pub use network_members::{Done, Refusal, Work};
+pub use stirred::{PeerSet, Stirred, Ways};
 pub use topologies::Plant;

@@ -4,6 +4,7 @@ ghost use Rattle.plant_network.specs.Turns.{Admits, IsAnswer, LastsTo};
 
 use crate::acts::{Act, ActAnswer, Acted};
 use crate::network::Network;
+use crate::stirred::{delivers, stirred_by};
 use crate::topologies::Plant;
 use network_members::Topologies;
 use plant_lock::Turned;
@@ -47,10 +48,13 @@ impl Turned for Network<Topologies> {
 
     fn turn(&mut self, act: Act) -> ActAnswer {
         self.requests_have_given_numbers();
+        let is_delivery = delivers(&act);
         let acted = perform(self, act);
+        let stirred = stirred_by(self, is_delivery, &acted);
         ActAnswer {
             acted,
             left: Snapshot::of(self),
+            stirred,
         }
     }
 

@@ -125,6 +125,21 @@ fn shut_event(peer: Option<u32>) -> Option<Event>
     peer.map(|peer| Event::Shut(peer))
 }
 
+fn receive_event(peer: Option<u32>, bytes: Bytes) -> Option<Event>
+    ensures { result ≡ option_map (λ i. Event.Feed i bytes) peer }
+{
+    match peer {
+        Some(peer) => Some(Event::Feed(peer, bytes)),
+        None => None,
+    }
+}
+
+fn take_event(peer: Option<u32>) -> Option<Event>
+    ensures { result ≡ option_map (λ i. Event.Take i) peer }
+{
+    peer.map(|peer| Event::Take(peer))
+}
+
 fn drain_event(peer: Option<u32>, holder: u32) -> Option<Event>
     ensures { result ≡ option_map (λ i. Event.Drain i holder) peer }
 {
@@ -170,6 +185,10 @@ pub(crate) fn play_line(
         }
         LineEvent::Shut(peer) => play_named(alloc, plant, modes, line, shut_event(peer), into),
         LineEvent::Feed(peer, bytes) => feed_named(alloc, plant, modes, line, peer, bytes, into),
+        LineEvent::Receive(peer, bytes) => {
+            play_named(alloc, plant, modes, line, receive_event(peer, bytes), into)
+        }
+        LineEvent::Take(peer) => play_named(alloc, plant, modes, line, take_event(peer), into),
         LineEvent::Carry(from, to) => {
             play_event(alloc, plant, modes, line, Event::Carry(from, to), into)
         }

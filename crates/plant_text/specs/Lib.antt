@@ -7,6 +7,7 @@ pub mod Faults
 pub mod Networks
 pub mod Given
 pub mod Lines
+pub mod OperatorLines
 pub mod Sents
 pub mod SettingsText
 pub mod Reads

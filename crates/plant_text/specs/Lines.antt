@@ -65,6 +65,8 @@ verb_word verb.Change = codes "change"
 verb_word verb.Open = codes "open"
 verb_word verb.Shut = codes "shut"
 verb_word verb.Feed = codes "feed"
+verb_word verb.Receive = codes "receive"
+verb_word verb.Take = codes "take"
 verb_word verb.Carry = codes "carry"
 verb_word verb.Break = codes "break"
 verb_word verb.Solve = codes "solve"
@@ -76,7 +78,7 @@ verb_word verb.Certify = codes "certify"
 verb_word verb.Disclose = codes "disclose"
 
 abbrev pub verbs : List Verb
-verbs = verb.Load ∷ verb.Change ∷ verb.Open ∷ verb.Shut ∷ verb.Feed ∷ verb.Carry ∷ verb.Break ∷ verb.Solve ∷ verb.Tick ∷ verb.Drain ∷ verb.Settle ∷ verb.Finish ∷ verb.Certify ∷ verb.Disclose ∷ []
+verbs = verb.Load ∷ verb.Change ∷ verb.Open ∷ verb.Shut ∷ verb.Feed ∷ verb.Receive ∷ verb.Take ∷ verb.Carry ∷ verb.Break ∷ verb.Solve ∷ verb.Tick ∷ verb.Drain ∷ verb.Settle ∷ verb.Finish ∷ verb.Certify ∷ verb.Disclose ∷ []
 
 abbrev pub verb_in : List ℕ → Option Verb
 verb_in word = find (λ v. bytes_eq word (verb_word v)) verbs
@@ -103,6 +105,8 @@ behind peers verb.Change words = both as_in file_in words >>= λ p. Some (event.
 behind peers verb.Open words = both (peer_in peers) number_32 words >>= λ p. Some (event.Open p.0 p.1)
 behind peers verb.Shut words = only (peer_in peers) words >>= λ p. Some (event.Shut p)
 behind peers verb.Feed words = both (peer_in peers) hex_in words >>= λ p. Some (event.Feed p.0 p.1)
+behind peers verb.Receive words = both (peer_in peers) hex_in words >>= λ p. Some (event.Receive p.0 p.1)
+behind peers verb.Take words = only (peer_in peers) words >>= λ p. Some (event.Take p)
 behind peers verb.Carry words = both as_in as_in words >>= λ p. Some (event.Carry p.0 p.1)
 behind peers verb.Break words = both as_in as_in words >>= λ p. Some (event.Break p.0 p.1)
 behind peers verb.Solve words = both as_in number_64 words >>= λ p. Some (event.Solve p.0 p.1 [])
@@ -120,6 +124,12 @@ event_in peers words = first verb_in words >>= λ v. behind peers v.0 v.1
 -- what a line of `play` says; one that is blank or a comment says nothing
 abbrev pub line_in : NetworkParts → List ℕ → Option (Option LineEvent)
 line_in n line = if is_skipped line then Some None else (words_of line >>= event_in n.peers >>= λ e. Some (Some e))
+
+-- the octets that come from a peer by an event; none but by these two
+abbrev pub octets_of : LineEvent → List ℕ
+octets_of (event.Feed peer bytes) = bytes
+octets_of (event.Receive peer bytes) = bytes
+octets_of e = []
 
 -- ---- lines of `blind`
 

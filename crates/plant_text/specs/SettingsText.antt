@@ -15,6 +15,8 @@ use Rattle.te_links.specs.declared.limits.TheConstants.{SRLGS_MAX}
 use Rattle.toml.specs.Data.{Data, Items, no_items, item, Members, no_members, member, integer, array, table, get_member, as_str, as_bool}
 use Rattle.plant_text.specs.declared.settings.ElementRow.{ElementRow}
 use Rattle.plant_text.specs.declared.settings.PeerRow.{PeerRow}
+use Rattle.plant_text.specs.declared.settings.Comes.{Comes}
+use Rattle.plant_text.specs.declared.settings.Comes.TheVariants.{Anyone, From, Dialled}
 use Rattle.plant_text.specs.declared.settings.DenyRow.{DenyRow}
 use Rattle.plant_text.specs.declared.fault.Breach.{Breach}
 use Rattle.plant_text.specs.declared.fault.Breach.TheVariants.{TooMany, Shape}
@@ -100,7 +102,7 @@ link_of ms = do
   Some (a, b)
 
 abbrev pub peer_key : List ℕ → Bool
-peer_key = is_one_of (codes "name" ∷ codes "as" ∷ codes "class" ∷ codes "neighbour" ∷ codes "port" ∷ codes "expand" ∷ codes "down" ∷ [])
+peer_key = is_one_of (codes "name" ∷ codes "as" ∷ codes "class" ∷ codes "neighbour" ∷ codes "port" ∷ codes "expand" ∷ codes "down" ∷ codes "from" ∷ codes "connect" ∷ [])
 
 -- a class of this name; only that of a neighbour has a number
 abbrev pub class_of : List ℕ → Bool → Option Data → Option Class
@@ -113,14 +115,26 @@ class_in ms = do
   expand ← optional as_bool true (codes "expand") ms
   class_of word expand (get_member (codes "neighbour") ms)
 
+-- who connects: anyone to the port, or one address does, or one is dialled; never both
+abbrev pub comes_of : Option Data → Option Data → Option Comes
+comes_of None None = Some Anyone
+comes_of (Some d) None = addr_of d >>= λ a. Some (From a)
+comes_of None (Some d) = addr_of d >>= λ a. Some (Dialled a)
+comes_of (Some d) (Some e) = None
+
+abbrev pub comes_in : Members → Option Comes
+comes_in ms = comes_of (get_member (codes "from") ms) (get_member (codes "connect") ms)
+
+-- No key says anything of what stands behind `down`.
 unfoldable pub peer_of : Members → Option PeerRow
 peer_of ms = do
   name ← needed as_str (codes "name") ms
   at ← needed as_of (codes "as") ms
   class ← class_in ms
   port ← optional (number (2 ^ 16 - 1)) 4189 (codes "port") ms
+  comes ← comes_in ms
   down ← optional as_bool false (codes "down") ms
-  Some (record { name = name; at = at; class = class; port = port; down = down })
+  Some (record { name = name; at = at; class = class; port = port; comes = comes; down = down; patience = None; pending = None; keys = None; capability = false })
 
 abbrev pub deny_key : List ℕ → Bool
 deny_key = is_one_of (codes "at" ∷ codes "from" ∷ codes "next" ∷ [])

@@ -3,15 +3,15 @@ ghost use Rattle.std.specs.Prelude.{◌≡◌, None, Some, codes, nat_lt, option
 ghost use Rattle.toml.specs.Data.{get_member};
 ghost use Rattle.toml.specs.View.{items_view, table_view, view};
 ghost use Rattle.plant_text.specs.Given.{Gives};
-ghost use Rattle.plant_text.specs.SettingsText.{class_in, class_of, ends_in, file_of, has_many, item_count, link_in, optional};
+ghost use Rattle.plant_text.specs.SettingsText.{class_in, class_of, ends_in, file_of, has_many, item_count, link_in, optional, comes_in, comes_of as comes_of_values};
 
 use crate::fault::Breach;
 use crate::line::LineError;
 use crate::network::PORT;
-use crate::settings::{DenyRow, ElementRow, PeerRow};
+use crate::settings::{Comes, DenyRow, ElementRow, PeerRow};
 use crate::value::{
-    addr_at, as_at, as_of_value, bool_or, colour_at, is_one_of, numbers_or_none, text_at, value_at,
-    whole_at, whole_or,
+    addr_at, addr_in, as_at, as_of_value, bool_or, colour_at, is_one_of, numbers_or_none, text_at,
+    value_at, whole_at, whole_or,
 };
 use disclosure::{Class, Deny};
 use dom_base::{Addr, As, Link, ParentLink, Text};
@@ -155,6 +155,28 @@ fn class_at(table: &Table) -> Option<Class>
     class_named(word, expand, value_at(table, "neighbour"))
 }
 
+// Who connects, with the values of `from` and `connect`, of which at most one is there.
+fn comes_of(from: Option<&Value>, connect: Option<&Value>) -> Option<Comes>
+    ensures { result ≡ comes_of_values (option_map (λ v. view v.now) from.entry) (option_map (λ v. view v.now) connect.entry) }
+{
+    match from {
+        Some(value) => match connect {
+            Some(_) => None,
+            None => Some(Comes::From(addr_in(value)?)),
+        },
+        None => match connect {
+            Some(value) => Some(Comes::Dialled(addr_in(value)?)),
+            None => Some(Comes::Anyone),
+        },
+    }
+}
+
+fn comes_at(table: &Table) -> Option<Comes>
+    ensures { result ≡ comes_in (table_view table.now) }
+{
+    comes_of(value_at(table, "from"), value_at(table, "connect"))
+}
+
 impl Formed for PeerRow {
     ghost use Rattle.plant_text.specs.SettingsText.{peer_form};
 
@@ -163,7 +185,17 @@ impl Formed for PeerRow {
     fn is_key(key: &str) -> bool {
         is_one_of(
             key,
-            &["name", "as", "class", "neighbour", "port", "expand", "down"],
+            &[
+                "name",
+                "as",
+                "class",
+                "neighbour",
+                "port",
+                "expand",
+                "down",
+                "from",
+                "connect",
+            ],
         )
     }
 
@@ -181,6 +213,9 @@ impl Formed for PeerRow {
         let Some(port) = whole_or(table, "port", u64::from(u16::MAX), u64::from(PORT)) else {
             return Err(LineError::Outside);
         };
+        let Some(comes) = comes_at(table) else {
+            return Err(LineError::Outside);
+        };
         let Some(down) = bool_or(table, "down", false) else {
             return Err(LineError::Outside);
         };
@@ -189,7 +224,12 @@ impl Formed for PeerRow {
             at,
             class,
             port: port as u16,
+            comes,
             down,
+            patience: None,
+            pending: None,
+            keys: None,
+            capability: false,
         })
     }
 

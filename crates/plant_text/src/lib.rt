@@ -10,6 +10,9 @@ mod limits;
 mod line;
 mod lines;
 mod network;
+mod operator_line;
+mod operator_lines;
+mod operator_verb;
 mod row;
 mod row_words;
 mod rows;
@@ -30,5 +33,7 @@ pub use limits::{
 pub use line::{LineError, LineEvent};
 pub use lines::{read_blind_line, read_line};
 pub use network::Network;
-pub use settings::{DenyRow, ElementRow, NetworkParts, PeerRow};
+pub use operator_line::{OperatorLine, Subject};
+pub use operator_lines::read_operator_line;
+pub use settings::{Comes, DenyRow, ElementRow, NetworkParts, PeerRow};
 pub use write::write_sent;

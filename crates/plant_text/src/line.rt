@@ -14,6 +14,8 @@ pub enum LineEvent {
     Open(Option<u32>, u32),
     Shut(Option<u32>),
     Feed(Option<u32>, Bytes),
+    Receive(Option<u32>, Bytes),
+    Take(Option<u32>),
     Carry(As, As),
     Break(As, As),
     Solve(As, u64, List<BorderRow>),

@@ -69,6 +69,26 @@ fn feed(alloc: Global, words: &mut Words<'_>, peers: &[PeerRow]) -> Result<LineE
 }
 
 #[tactic(auto, unfolding(crate::specs::Lines::behind))]
+fn receive(alloc: Global, words: &mut Words<'_>, peers: &[PeerRow]) -> Result<LineEvent, LineError>
+    requires { length peers.now < 2 ^ 32 }
+    ensures { Gives result (behind peers.now Verb.Receive words.old) }
+{
+    let (peer, bytes) = peer_and_bytes(alloc, words, peers)?;
+    Ok(LineEvent::Receive(peer, bytes))
+}
+
+#[tactic(auto, unfolding(crate::specs::Lines::behind))]
+fn take(words: &mut Words<'_>, peers: &[PeerRow]) -> Result<LineEvent, LineError>
+    requires { length peers.now < 2 ^ 32 }
+    ensures { Gives result (behind peers.now Verb.Take words.old) }
+{
+    match peer_alone(words, peers) {
+        Some(peer) => Ok(LineEvent::Take(peer)),
+        None => Err(LineError::Outside),
+    }
+}
+
+#[tactic(auto, unfolding(crate::specs::Lines::behind))]
 fn carry(words: &mut Words<'_>, _peers: &[PeerRow]) -> Result<LineEvent, LineError>
     ensures { Gives result (behind _peers.now Verb.Carry words.old) }
 {
@@ -178,6 +198,8 @@ fn event_of(alloc: Global, words: &mut Words<'_>, peers: &[PeerRow]) -> Result<L
         Verb::Open => open_peer(words, peers),
         Verb::Shut => shut(words, peers),
         Verb::Feed => feed(alloc, words, peers),
+        Verb::Receive => receive(alloc, words, peers),
+        Verb::Take => take(words, peers),
         Verb::Carry => carry(words, peers),
         Verb::Break => break_link(words, peers),
         Verb::Solve => solve(alloc, words, peers),
@@ -208,6 +230,8 @@ fn blind_event_of(
         Verb::Open => open_peer(words, peers),
         Verb::Shut => shut(words, peers),
         Verb::Feed => feed(alloc, words, peers),
+        Verb::Receive => receive(alloc, words, peers),
+        Verb::Take => take(words, peers),
         Verb::Carry => carry(words, peers),
         Verb::Break => break_link(words, peers),
         Verb::Solve => solved(alloc, words),
@@ -226,8 +250,8 @@ fn is_all_blank(line: &[u8]) -> bool
     line.iter().all(|c| *c == b' ' || *c == b'\t')
 }
 
-// Whether a line is blank or a comment.
-fn is_skipped(line: &[u8]) -> bool
+/// Whether a line is blank or a comment.
+pub(crate) fn is_skipped(line: &[u8]) -> bool
     ensures { result ≡ tells_nothing line.now }
 {
     is_all_blank(line) || line.starts_with(b"#")

@@ -10,7 +10,7 @@ ghost use Rattle.plant_text.specs.Settings.{is_element as has_element};
 use crate::check::check;
 use crate::fault::{NetError, NetFault};
 use crate::row::is_element;
-use crate::settings::{NetworkParts, PeerRow};
+use crate::settings::{Comes, NetworkParts, PeerRow};
 use crate::sheet::{Cuts, Sheet};
 use disclosure::Class;
 use dom_base::{As, NoMemory, Text};
@@ -77,7 +77,12 @@ fn path_client_at(alloc: Global, at: As) -> Result<PeerRow, NoMemory>
         at,
         class: Class::Client { expand: true },
         port: PORT,
+        comes: Comes::Anyone,
         down: false,
+        patience: None,
+        pending: None,
+        keys: None,
+        capability: false,
     })
 }
 

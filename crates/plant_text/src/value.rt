@@ -54,7 +54,7 @@ pub(crate) fn as_of_value(value: &Value) -> Option<As>
     Some(As(number as u16))
 }
 
-fn addr_in(value: &Value) -> Option<Addr>
+pub(crate) fn addr_in(value: &Value) -> Option<Addr>
     ensures { result ≡ addr_of (view value.now) }
 {
     match value.as_str() {

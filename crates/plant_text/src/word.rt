@@ -27,11 +27,17 @@ pub(crate) fn next_verb(words: &mut Words<'_>) -> Option<Verb>
     verb_of(words.next_word()?)
 }
 
+pub(crate) fn as_of(word: &[u8]) -> Option<As>
+    ensures { result ≡ as_in word.now }
+{
+    let number = read_number(word, u64::from(u16::MAX))?;
+    Some(As(number as u16))
+}
+
 pub(crate) fn next_as(words: &mut Words<'_>) -> Option<As>
     ensures { MatchOption result (first as_in words.old ≡ None) (λ number. first as_in words.old ≡ Some (number, words.new)) }
 {
-    let number = read_number(words.next_word()?, u64::from(u16::MAX))?;
-    Some(As(number as u16))
+    as_of(words.next_word()?)
 }
 
 fn next_number(words: &mut Words<'_>) -> Option<u32>
@@ -55,8 +61,8 @@ fn place_of(peers: &[PeerRow], name: &[u8]) -> Option<usize>
         .position(|peer| peer.name.as_str().as_bytes() == name)
 }
 
-// The number of the first peer of this name.
-fn find_peer(peers: &[PeerRow], name: &[u8]) -> Option<u32>
+/// The number of the first peer of this name.
+pub(crate) fn find_peer(peers: &[PeerRow], name: &[u8]) -> Option<u32>
     requires { length peers.now < 2 ^ 32 }
     ensures { Some result ≡ peer_in peers.now name.now }
 {

@@ -1,13 +1,12 @@
 -- What texts give is within the ranges of its types.
-use Rattle.std.specs.Prelude.{◌≡◌, ◌<◌, ℕ, List, All, Option, Some, Ok}
+use Rattle.std.specs.Prelude.{◌≡◌, ◌<◌, ℕ, List, All, Some, Ok}
 use Rattle.te_links.specs.Rows.{Rows}
 use Rattle.te_text.specs.Reads.{Reads}
 use Rattle.te_deltas.specs.Answers.{IsBuiltOf}
 use Rattle.te_deltas.specs.ChangeText.{text_in}
 use Rattle.te_deltas.specs.declared.changes.Change.{Change}
-use Rattle.plant_text.specs.declared.line.LineEvent.TheVariants.{Feed}
-use Rattle.plant_laws.specs.plant_model.Types.{NetworkParts}
-use Rattle.plant_text.specs.Lines.{blind_line_in, line_in}
+use Rattle.plant_laws.specs.plant_model.Types.{LineEvent, NetworkParts}
+use Rattle.plant_text.specs.Lines.{blind_line_in, line_in, octets_of}
 use Rattle.plant_laws.specs.plant_model.Plant.{AreInRange}
 
 -- A topology that a text gives is in range.
@@ -23,8 +22,8 @@ AreOctets bytes = All (λ b. b < 256) bytes
 
 -- What a line of `play` feeds is octets.
 abbrev pub FeedsAreOctets : Type 0
-FeedsAreOctets = (n : NetworkParts) (line : List ℕ) (peer : Option ℕ) (bytes : List ℕ) → line_in n line ≡ Some (Some (Feed peer bytes)) → AreOctets bytes
+FeedsAreOctets = (n : NetworkParts) (line : List ℕ) (e : LineEvent) → line_in n line ≡ Some (Some e) → AreOctets (octets_of e)
 
 -- So is what a line of `blind` feeds.
 abbrev pub BlindFeedsAreOctets : Type 0
-BlindFeedsAreOctets = (n : NetworkParts) (line : List ℕ) (peer : Option ℕ) (bytes : List ℕ) → blind_line_in n line ≡ Some (Some (Feed peer bytes)) → AreOctets bytes
+BlindFeedsAreOctets = (n : NetworkParts) (line : List ℕ) (e : LineEvent) → blind_line_in n line ≡ Some (Some e) → AreOctets (octets_of e)

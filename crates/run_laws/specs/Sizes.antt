@@ -1,14 +1,13 @@
 -- How much a text gives: a line feeds no more octets than it has bytes, and lines are no longer than their text.
-use Rattle.std.specs.Prelude.{◌≡◌, ◌≤◌, ℕ, List, length, Option, Some}
+use Rattle.std.specs.Prelude.{◌≡◌, ◌≤◌, ℕ, List, length, Some}
 use Rattle.std.specs.List.{sum_by}
 use Rattle.line_text.specs.Lines.{NumberedLine, told_lines}
-use Rattle.plant_text.specs.declared.line.LineEvent.TheVariants.{Feed}
-use Rattle.plant_laws.specs.plant_model.Types.{NetworkParts}
-use Rattle.plant_text.specs.Lines.{line_in}
+use Rattle.plant_laws.specs.plant_model.Types.{LineEvent, NetworkParts}
+use Rattle.plant_text.specs.Lines.{line_in, octets_of}
 
 -- What a line of `play` feeds has no more octets than the line has bytes.
 abbrev pub FeedsAreShort : Type 0
-FeedsAreShort = (n : NetworkParts) (line : List ℕ) (peer : Option ℕ) (bytes : List ℕ) → line_in n line ≡ Some (Some (Feed peer bytes)) → length bytes ≤ length line
+FeedsAreShort = (n : NetworkParts) (line : List ℕ) (e : LineEvent) → line_in n line ≡ Some (Some e) → length (octets_of e) ≤ length line
 
 -- how many bytes lines have together
 abbrev pub all_lengths : List NumberedLine → ℕ

@@ -9,7 +9,8 @@ use Rattle.dom_edge.specs.Whole.{AppendsSome}
 use Rattle.plant_model.specs.declared.outcome.Refused.{Refused}
 use Rattle.plant_model.specs.declared.outcome.Refused.TheVariants.{NoSuchPeer, NoMemory as NoRoom}
 use Rattle.server_loops.specs.Desks.{Call}
-use Rattle.server_loops.specs.Sessions.{Sides, drained, fed, Makes, Runs, IsUnopened, IsCutOff, IsSession, Writes, Feeds, HasCauses, IsReadOut, joined}
+use Rattle.dom_edge.specs.Heeding.{Sides}
+use Rattle.server_loops.specs.Sessions.{drained, fed, Makes, Runs, IsUnopened, IsCutOff, IsSession, Writes, Feeds, HasCauses, IsReadOut, joined}
 use Rattle.server_loops.specs.declared.sessions.Ended.{Ended}
 use Rattle.server_loops.specs.declared.sessions.Ended.TheVariants.{Closed, PeerEnd, ReadFault, WriteFault, Turns, NotOpened, Lost, Spent, NoMemory}
 use Rattle.server_loops.proofs.Passing.{drained_on, fed_on, turns_later, turns_feed, makes_write, makes_fed, whole_is_some}

@@ -5,7 +5,8 @@ use Rattle.plant_model.specs.declared.outcome.Outcome.{Outcome}
 use Rattle.plant_model.specs.declared.outcome.Refused.{Refused}
 use Rattle.plant_model.specs.declared.outcome.Refused.TheVariants.{NoSuchPeer, NoMemory as NoRoom}
 use Rattle.server_loops.specs.Desks.{Answer, Call, Desked, Goes, call}
-use Rattle.server_loops.specs.Sessions.{Sides, drained, joined, refused, IsCount, IsShut, IsTurn, IsRefused, AreTurns, Last, Makes, Runs, IsCutOff, IsSession, Serves}
+use Rattle.dom_edge.specs.Heeding.{Sides}
+use Rattle.server_loops.specs.Sessions.{drained, joined, refused, IsCount, IsShut, IsTurn, IsRefused, AreTurns, Last, Makes, Runs, IsCutOff, IsSession, Serves}
 use Rattle.server_loops.specs.Steps.{Leaves, AreServed, IsClosedBy, IsEndOfOpen, Shuts}
 use Rattle.server_loops.specs.declared.desks.DeskRefused.{DeskRefused}
 use Rattle.server_loops.specs.declared.desks.DeskRefused.TheVariants as desk
@@ -146,10 +147,7 @@ closed peer holder turns opened old d e new before after end result goes are is 
     record {
       made = made;
       calls = on old e new (first ∷ whole) is.made (on old d e (first ∷ []) whole goes.calls are.calls) is.calls;
-      order = order;
-      written = p.written;
-      fed = p.fed;
-      causes = p.causes;
+      over = record { order = order; written = p.written; fed = p.fed; causes = p.causes };
     }
 
 -- an Open that was refused
@@ -158,7 +156,7 @@ module _ (peer holder turns : ℕ) (old new : Desked) (s : Sides) where
       Serves peer holder turns end old new s s
   refused_open why end calls order =
       let p = session_passes peer holder turns (refused (Open peer holder) why ∷ []) s s end order in
-      record { made = refused (Open peer holder) why ∷ []; calls = calls; order = order; written = p.written; fed = p.fed; causes = p.causes }
+      record { made = refused (Open peer holder) why ∷ []; calls = calls; over = record { order = order; written = p.written; fed = p.fed; causes = p.causes } }
 
   pub unopened_session : (why : DeskRefused) (end : Ended) → Goes old new (Open peer holder) (Err why) → IsEndOfOpen why end → Serves peer holder turns end old new s s
   unopened_session (desk.Plant why) end goes (inl is) =
@@ -174,4 +172,4 @@ module _ (peer holder turns : ℕ) (old new : Desked) (s : Sides) where
       let cut : IsCutOff peer holder turns [] s s = record { end = NotOpened; rest = refused (Open peer holder) NoSuchPeer ∷ []; nothing = refl; runs = (refl, refl) } in
       let p = session_passes peer holder turns [] s s (Spent t) cut in
       subst (λ (e : Ended). Serves peer holder turns e old new s s) (sym is)
-      (record { made = []; calls = goes.calls; order = cut; written = p.written; fed = p.fed; causes = p.causes })
+      (record { made = []; calls = goes.calls; over = record { order = cut; written = p.written; fed = p.fed; causes = p.causes } })

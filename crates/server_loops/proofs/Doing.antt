@@ -16,10 +16,10 @@ use Rattle.plant_text.specs.declared.fault.NetFault.{NetFault}
 use Rattle.plant_text.specs.Given.{Gives}
 use Rattle.plant_text.specs.declared.line.LineError.{LineError}
 use Rattle.plant_text.specs.declared.line.LineError.TheVariants.{Outside}
-use Rattle.plant_text.specs.declared.line.LineEvent.{LineEvent}
-use Rattle.plant_text.specs.declared.line.LineEvent.TheVariants as line
+use Rattle.plant_text.specs.declared.operator_line.OperatorLine.{OperatorLine}
+use Rattle.plant_text.specs.declared.operator_line.OperatorLine.TheVariants as line
 use Rattle.plant_text.specs.declared.settings.NetworkParts.{NetworkParts}
-use Rattle.plant_text.specs.Lines.{line_in}
+use Rattle.plant_text.specs.OperatorLines.{line_in}
 use Rattle.plant_text.specs.Settings.{is_element}
 use Rattle.plant_model.specs.declared.event.Event.TheVariants as event
 use Rattle.plant_model.specs.declared.outcome.Outcome.{Outcome}
@@ -28,7 +28,7 @@ use Rattle.plant_model.specs.declared.outcome.Refused.TheVariants.{NoSuchPeer}
 use Rattle.transcript.specs.Lines.{answer_line}
 use Rattle.ted_watch.specs.declared.shown.Shown.{Shown}
 use Rattle.server_loops.specs.Charts.{Asks, Call, Charted, Current, Did, Mapped, current_of}
-use Rattle.server_loops.specs.Operating.{Context, Does, DoesEvent, IsEndOf, IsFirstPart, Loads, Past, Publishes, ShowsMapped, Progress, WithFile, Work, is_done, line_most, past, shown_by}
+use Rattle.server_loops.specs.Operating.{Context, Does, DoesAsked, IsEndOf, IsFirstPart, Loads, Past, Publishes, ShowsMapped, Progress, WithFile, Work, is_done, line_most, past, shown_by}
 use Rattle.server_loops.specs.OperatorSteps.{Acted, Asked, DoesFile, DoesText, EndsAs, answered, file_of, Goes, IsBegun, IsFile, IsPartDone, Refuses, text_of}
 use Rattle.server_loops.specs.Texts.{bad_network_text, fault_text, read_fault_text, too_large_text}
 use Rattle.server_loops.specs.declared.operating.Operated.{Operated}
@@ -307,11 +307,11 @@ asked_goes_out P at Turns old new list other some rest before after does is aske
 
 module _ (x : Context) (number : ℕ) (a b : Progress) (r : Result (Unit {0}) Operated) (p q : Past) (spent : Option ℕ) (before after : List ℕ) where
   -- what a line says
-  pub event_goes : (said known : Option (Option LineEvent)) → said ≡ known → Goes (DoesEvent x number known a b) r p q spent before after → Goes (DoesEvent x number said a b) r p q spent before after
-  event_goes said known e goes = subst (λ (s : Option (Option LineEvent)). Goes (DoesEvent x number s a b) r p q spent before after) (sym e) goes
+  pub event_goes : (said known : Option (Option OperatorLine)) → said ≡ known → Goes (DoesAsked x number known a b) r p q spent before after → Goes (DoesAsked x number said a b) r p q spent before after
+  event_goes said known e goes = subst (λ (s : Option (Option OperatorLine)). Goes (DoesAsked x number s a b) r p q spent before after) (sym e) goes
 
-  pub short_goes : (text : List ℕ) → nat_lt line_most (length text) ≡ false → Goes (DoesEvent x number (line_in x.network text) a b) r p q spent before after → Goes (Does x number text a b) r p q spent before after
-  short_goes text short goes = goes_as (DoesEvent x number (line_in x.network text) a b) (Does x number text a b) (λ w d. rw short d) r p q spent before after goes
+  pub short_goes : (text : List ℕ) → nat_lt line_most (length text) ≡ false → Goes (DoesAsked x number (line_in x.network text) a b) r p q spent before after → Goes (Does x number text a b) r p q spent before after
+  short_goes text short goes = goes_as (DoesAsked x number (line_in x.network text) a b) (Does x number text a b) (λ w d. rw short d) r p q spent before after goes
 
 -- a line that is too long
 pub long_said : (x : Context) (number : ℕ) (a b : Progress) (text : List ℕ) → nat_lt line_most (length text) ≡ true → Does x number text a b (record { calls = []; shown = []; text = too_large_text number (codes "input") })
@@ -379,25 +379,18 @@ long_goes x number a b text (Ok u) p spent before after long fresh told lack = g
 long_goes x number a b text (Err end) p spent before after long fresh told lack = goes_lack (Does x number text a b) end p spent before after lack fresh
 
 -- a line does what the file asks that it names
-event_file : (x : Context) (number : ℕ) (e : LineEvent) (a b : Progress) (w : Work) → DoesFile x number (file_of e) a b w → DoesEvent x number (Some (Some e)) a b w
-event_file x number (line.Load at name) a b w does = does
-event_file x number (line.Change at name) a b w does = does
-event_file x number (line.Open p h) a b w does = does
-event_file x number (line.Shut p) a b w does = does
-event_file x number (line.Feed p xs) a b w does = does
-event_file x number (line.Carry u v) a b w does = does
-event_file x number (line.Break u v) a b w does = does
-event_file x number (line.Solve u k rows) a b w does = does
-event_file x number (line.Tick t) a b w does = does
-event_file x number (line.Drain p h) a b w does = does
-event_file x number line.Settle a b w does = does
-event_file x number line.Finish a b w does = does
-event_file x number line.CertifyOn a b w does = does
-event_file x number line.DiscloseOn a b w does = does
+asked_file : (x : Context) (number : ℕ) (e : OperatorLine) (a b : Progress) (w : Work) → DoesFile x number (file_of e) a b w → DoesAsked x number (Some (Some e)) a b w
+asked_file x number (line.Load at name) a b w does = does
+asked_file x number (line.Change at name) a b w does = does
+asked_file x number line.Stop a b w does = does
+asked_file x number (line.Show subject) a b w does = does
+asked_file x number (line.Shut p) a b w does = does
+asked_file x number (line.Break u v) a b w does = does
+asked_file x number (line.Write at name) a b w does = does
 
-pub event_goes_file : (x : Context) (number : ℕ) (e : LineEvent) (f : Option (Bool × As × List ℕ)) (a b : Progress) (r : Result (Unit {0}) Operated) (p q : Past) (spent : Option ℕ) (before after : List ℕ) → file_of e ≡ f → Goes (DoesFile x number f a b) r p q spent before after → Goes (DoesEvent x number (Some (Some e)) a b) r p q spent before after
-event_goes_file x number e f a b r p q spent before after is goes =
-    goes_as (DoesFile x number (file_of e) a b) (DoesEvent x number (Some (Some e)) a b) (event_file x number e a b) r p q spent before after
+pub asked_goes_file : (x : Context) (number : ℕ) (e : OperatorLine) (f : Option (Bool × As × List ℕ)) (a b : Progress) (r : Result (Unit {0}) Operated) (p q : Past) (spent : Option ℕ) (before after : List ℕ) → file_of e ≡ f → Goes (DoesFile x number f a b) r p q spent before after → Goes (DoesAsked x number (Some (Some e)) a b) r p q spent before after
+asked_goes_file x number e f a b r p q spent before after is goes =
+    goes_as (DoesFile x number (file_of e) a b) (DoesAsked x number (Some (Some e)) a b) (asked_file x number e a b) r p q spent before after
     (subst (λ (k : Option (Bool × As × List ℕ)). Goes (DoesFile x number k a b) r p q spent before after) (sym is) goes)
 
 -- one thing is said, or memory lacks
@@ -424,5 +417,5 @@ pub bad_network_parts : (v : List ℕ) (number : ℕ) (name : List ℕ) (place :
 bad_network_parts v number name place why = simp append_assoc
 
 -- a line outside the form
-pub outside : (r : Result (Option LineEvent) LineError) (said : Option (Option LineEvent)) → r ≡ Err Outside → Gives r said → said ≡ None
-outside r said is gives = subst (λ (q : Result (Option LineEvent) LineError). Gives q said) is gives
+pub outside : (r : Result (Option OperatorLine) LineError) (said : Option (Option OperatorLine)) → r ≡ Err Outside → Gives r said → said ≡ None
+outside r said is gives = subst (λ (q : Result (Option OperatorLine) LineError). Gives q said) is gives

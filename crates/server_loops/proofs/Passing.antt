@@ -15,7 +15,8 @@ use Rattle.plant_model.specs.declared.event.Event.TheVariants.{Open, Feed, Take}
 use Rattle.plant_model.specs.declared.outcome.Refused.{Refused}
 use Rattle.plant_model.specs.declared.outcome.Refused.TheVariants.{NoMemory as NoRoom}
 use Rattle.server_loops.specs.Desks.{Call, call}
-use Rattle.server_loops.specs.Sessions.{Sides, bytes_of, drained, drained_by, fed, fed_by, joined, refused, IsAccepted, IsDrained, HasRead, IsFed, AreTakes, IsTurn, AreTurns, IsRefused, Last, IsShut, Makes, Writes, Feeds}
+use Rattle.dom_edge.specs.Heeding.{Sides}
+use Rattle.server_loops.specs.Sessions.{bytes_of, drained, drained_by, fed, fed_by, joined, refused, IsAccepted, IsDrained, HasRead, IsFed, AreTakes, IsTurn, AreTurns, IsRefused, Last, IsShut, Makes, Writes, Feeds}
 use Rattle.server_loops.specs.declared.sessions.Ended.{Ended}
 use Rattle.server_loops.specs.declared.sessions.Ended.TheVariants.{Closed, PeerEnd, ReadFault, WriteFault, Turns, NotOpened, Lost, Spent, NoMemory}
 

@@ -1,6 +1,6 @@
 -- A cache that is right in the topologies that a bench knows.
-use Rattle.std.proofs.Common.{◌≡◌, ◌⊎◌, inl, inr, ℕ, List, None, Some, refl, sym, ◌∙◌, ap, subst}
-use Rattle.std.specs.Prelude.{Contains, [], ◌<◌}
+use Rattle.std.proofs.Common.{◌≡◌, inl, inr, List, Some, sym, ◌∙◌, ap, subst}
+use Rattle.std.specs.Prelude.{Contains, []}
 use Rattle.std.specs.Arc.{arc_value}
 use Rattle.lru.specs.LruCache.{put_entries}
 use Rattle.lru.proofs.CallerLemmas.{Contains-put_entries}

@@ -2,7 +2,8 @@
 use Rattle.std.proofs.Common.{◌≡◌, inr, ◌<◌, ◌+◌, ℕ, List, [], ◌∷◌, ◌++◌, None, Ok, Err, length, length-append, append-nil, arith, refl, sym, ◌∙◌, ap, subst}
 use Rattle.std.proofs.lemmas.List.Concat.{flat_map-append}
 use Rattle.server_loops.specs.Desks.{Call, Desked}
-use Rattle.server_loops.specs.Sessions.{Sides, joined, IsCount, IsTurn, AreTurns}
+use Rattle.dom_edge.specs.Heeding.{Sides}
+use Rattle.server_loops.specs.Sessions.{joined, IsCount, IsTurn, AreTurns}
 use Rattle.server_loops.specs.Steps.{IsCut, IsTurned, AreServed, Leaves}
 use Rattle.server_loops.specs.declared.sessions.Ended.{Ended}
 use Rattle.server_loops.specs.declared.sessions.Ended.TheVariants.{Closed, PeerEnd, ReadFault, WriteFault, Turns, NotOpened, Lost, Spent, NoMemory}

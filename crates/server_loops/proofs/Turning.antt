@@ -1,5 +1,5 @@
 -- The parts of a turn.
-use Rattle.std.proofs.Common.{◌≡◌, inl, inr, ◌<◌, ◌≤◌, ◌+◌, ℕ, List, [], ◌∷◌, ◌++◌, None, Ok, Err, length, length-append, take, append_assoc, append-nil, arith, refl, sym, ◌∙◌, ap, subst, false, Bool, true}
+use Rattle.std.proofs.Common.{◌≡◌, inl, inr, ◌<◌, ◌+◌, ℕ, List, [], ◌∷◌, ◌++◌, None, Ok, Err, length, length-append, take, append_assoc, append-nil, arith, refl, sym, ◌∙◌, ap, subst, false, Bool, true}
 use Rattle.std.specs.List.{AllByRecursion}
 use Rattle.std.specs.declared.result.Result.{Result}
 use Rattle.dom_edge.specs.Streams.{Reading, Writing, IsRead}
@@ -11,7 +11,8 @@ use Rattle.plant_model.specs.declared.outcome.Outcome.TheVariants.{Drained}
 use Rattle.plant_model.specs.declared.outcome.Refused.{Refused}
 use Rattle.plant_model.specs.declared.outcome.Refused.TheVariants.{NoSuchPeer, NoMemory as NoRoom}
 use Rattle.server_loops.specs.Desks.{Call, Desked, Goes, call}
-use Rattle.server_loops.specs.Sessions.{Sides, sides, refused, IsAccepted, AreTakes, IsDrained, HasRead, IsFed, IsTurn, IsRefused}
+use Rattle.dom_edge.specs.Heeding.{Sides, sides}
+use Rattle.server_loops.specs.Sessions.{refused, IsAccepted, AreTakes, IsDrained, HasRead, IsFed, IsTurn, IsRefused}
 use Rattle.server_loops.specs.Steps.{IsHandedOn, IsEndOf, IsCut, Drains, IsHanded, IsTaken, IsReceived, IsTurned, FailsToFeed, AreCutTakes}
 use Rattle.server_loops.specs.declared.desks.DeskRefused.{DeskRefused}
 use Rattle.server_loops.specs.declared.desks.DeskRefused.TheVariants as desk
@@ -125,7 +126,7 @@ all_taken peer old new are = record {
 
 -- ---- a read and what follows it
 
-module _ (peer : ℕ) (r0 r1 : Reading) (w : Writing) (into : List ℕ) (room : length into ≤ 65536) where
+module _ (peer : ℕ) (r0 r1 : Reading) (w : Writing) (into : List ℕ) (room : length into ≡ 65536) where
   -- the turn as far as the read
   abbrev has_read : (holder : ℕ) (answer : Got) (first : Call) (w0 : Writing) → IsRead r0 r1 answer into → IsDrained peer holder false first w0 w →
       HasRead peer holder answer into first (sides r0 w0) (sides r1 w)

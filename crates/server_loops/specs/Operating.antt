@@ -15,10 +15,10 @@ use Rattle.te_deltas.specs.ChangeText.{change_file_most, text_in}
 use Rattle.te_deltas.specs.declared.changes.Change.{Change}
 use Rattle.network_files.specs.Reading.{IsChangeFault, IsTextFault, IsTopologyFault}
 use Rattle.plant_text.specs.declared.fault.NetFault.{NetFault}
-use Rattle.plant_text.specs.declared.line.LineEvent.{LineEvent}
-use Rattle.plant_text.specs.declared.line.LineEvent.TheVariants as line
+use Rattle.plant_text.specs.declared.operator_line.OperatorLine.{OperatorLine}
+use Rattle.plant_text.specs.declared.operator_line.OperatorLine.TheVariants as line
 use Rattle.plant_text.specs.declared.settings.NetworkParts.{NetworkParts}
-use Rattle.plant_text.specs.Lines.{line_in}
+use Rattle.plant_text.specs.OperatorLines.{line_in}
 use Rattle.plant_text.specs.Settings.{is_element}
 use Rattle.plant_model.specs.declared.event.Event.TheVariants as event
 use Rattle.plant_model.specs.declared.outcome.Outcome.{Outcome}
@@ -153,16 +153,16 @@ WithFile x number name a b Then w =
 -- ---- a line
 
 -- what a line does that says this; None where it is outside the form
-abbrev pub DoesEvent : Context → ℕ → Option (Option LineEvent) → Progress → Progress → Work → Type 0
-DoesEvent x number None a b w = Says (bad_line_text number) w
-DoesEvent x number (Some None) a b w = Says [] w
-DoesEvent x number (Some (Some (line.Load at name))) a b w = WithFile x number name a b (λ file. LoadsFile x.network number at name file a.past.shown) w
-DoesEvent x number (Some (Some (line.Change at name))) a b w = WithFile x number name a b (λ file. ChangesFile x.network number at name file a.past.shown) w
-DoesEvent x number (Some (Some e)) a b w = Says (bad_line_text number) w
+abbrev pub DoesAsked : Context → ℕ → Option (Option OperatorLine) → Progress → Progress → Work → Type 0
+DoesAsked x number None a b w = Says (bad_line_text number) w
+DoesAsked x number (Some None) a b w = Says [] w
+DoesAsked x number (Some (Some (line.Load at name))) a b w = WithFile x number name a b (λ file. LoadsFile x.network number at name file a.past.shown) w
+DoesAsked x number (Some (Some (line.Change at name))) a b w = WithFile x number name a b (λ file. ChangesFile x.network number at name file a.past.shown) w
+DoesAsked x number (Some (Some e)) a b w = Says (bad_line_text number) w
 
 -- what a line of this number does between two stages
 abbrev pub Does : Context → ℕ → List ℕ → Progress → Progress → Work → Type 0
-Does x number text a b w = MatchBool (nat_lt line_most (length text)) (Says (too_large_text number (codes "input")) w) (DoesEvent x number (line_in x.network text) a b w)
+Does x number text a b w = MatchBool (nat_lt line_most (length text)) (Says (too_large_text number (codes "input")) w) (DoesAsked x number (line_in x.network text) a b w)
 
 -- it did all of it, and this is said
 pub record IsDone (x : Context) (number : ℕ) (text : List ℕ) (a b : Progress) (told : List ℕ) : Type 0 where

@@ -12,8 +12,8 @@ use Rattle.network_files.specs.declared.error.FileError.{FileError}
 use Rattle.network_files.specs.declared.error.FileError.TheVariants.{BadFile}
 use Rattle.te_links.specs.Rows.{Rows}
 use Rattle.plant_text.specs.declared.settings.NetworkParts.{NetworkParts}
-use Rattle.plant_text.specs.declared.line.LineEvent.{LineEvent}
-use Rattle.plant_text.specs.declared.line.LineEvent.TheVariants as line
+use Rattle.plant_text.specs.declared.operator_line.OperatorLine.{OperatorLine}
+use Rattle.plant_text.specs.declared.operator_line.OperatorLine.TheVariants as line
 use Rattle.plant_model.specs.declared.event.Event.TheVariants as event
 use Rattle.plant_model.specs.declared.outcome.Outcome.{Outcome}
 use Rattle.plant_model.specs.declared.outcome.Refused.{Refused}
@@ -85,7 +85,7 @@ IsFile files number name (Ok None) faults now failed_at before after =
 IsFile files number name (Err end) faults now failed_at before after = end ≡ NoMemory
 
 -- the file that a line of an operator names, behind whether it has changes
-abbrev pub file_of : LineEvent → Option (Bool × As × List ℕ)
+abbrev pub file_of : OperatorLine → Option (Bool × As × List ℕ)
 file_of (line.Load at name) = Some (false, at, name)
 file_of (line.Change at name) = Some (true, at, name)
 file_of e = None

@@ -1,13 +1,14 @@
 -- What a port, a carrier and the teller of the time make.
-use Rattle.std.specs.Prelude.{◌≡◌, ◌≢◌, ◌⊎◌, ◌<◌, ◌≤◌, ◌+◌, ◌-◌, ◌%◌, ◌^◌, ℕ, List, [], ◌∷◌, ◌++◌, length, map, nat_lt, cond, None, Some, MatchOption}
+use Rattle.std.specs.Prelude.{◌≡◌, ◌≢◌, ◌⊎◌, ◌<◌, ◌≤◌, ◌+◌, ◌-◌, ◌%◌, ◌^◌, ℕ, List, [], ◌∷◌, ◌++◌, length, map, nat_lt, cond, Contains, None, Some, MatchOption}
 use Rattle.std.specs.List.{AllByRecursion}
 use Rattle.std.specs.declared.option.Option.{Option}
 use Rattle.dom_base.specs.declared.names.As.{As}
 use Rattle.dom_edge.specs.Causes.{Rose}
+use Rattle.dom_edge.specs.Heeding.{Sides}
 use Rattle.plant_model.specs.declared.event.Event.{Event}
 use Rattle.plant_model.specs.declared.event.Event.TheVariants.{Carry, Tick}
 use Rattle.server_loops.specs.Desks.{Call, Desked}
-use Rattle.server_loops.specs.Sessions.{Sides, IsSession, joined}
+use Rattle.server_loops.specs.Sessions.{OverLink, joined}
 use Rattle.server_loops.specs.declared.sessions.Ended.{Ended}
 use Rattle.server_loops.specs.declared.port.Ran.{Ran}
 use Rattle.server_loops.specs.declared.port.Ran.TheVariants.{Turns, Spent}
@@ -21,44 +22,45 @@ events calls = map (λ (c : Call). c.event) calls
 
 -- ---- a port
 
--- how often a listener failed, and how often nobody came
-pub record Waits : Type 0 where
+-- what is told of a listener: how often it failed, how often nobody came, and the links that it handed out, each as it was then
+pub record Heard : Type 0 where
   pub faults : ℕ
   pub quiets : ℕ
+  pub handed : List Sides
 
-abbrev pub waits : ℕ → ℕ → Waits
-waits f q = record { faults = f; quiets = q }
+abbrev pub heard : ℕ → ℕ → List Sides → Heard
+heard f q links = record { faults = f; quiets = q; handed = links }
 
--- no count fell
-pub record IsLater (old new : Waits) : Type 0 where
+-- no count fell, and these links were handed out meanwhile
+pub record IsLater (links : List Sides) (old new : Heard) : Type 0 where
   pub faults : old.faults ≤ new.faults
   pub quiets : old.quiets ≤ new.quiets
+  pub handed : new.handed ≡ old.handed ++ links
 
 -- nobody came, or the listener failed
-pub record IsIdle (old new : Waits) : Type 0 where
-  pub later : IsLater old new
+pub record IsIdle (old new : Heard) : Type 0 where
+  pub later : IsLater [] old new
   pub rose : Rose old.faults new.faults ⊎ Rose old.quiets new.quiets
 
--- a session of 2^64 - 1 turns, over any link and with any end
-pub record IsServed (peer holder : ℕ) (made : List Call) : Type 0 where
+-- a session of 2^64 - 1 turns over that link, with any end
+pub record IsServed (peer holder : ℕ) (made : List Call) (link : Sides) : Type 0 where
   pub end : Ended
-  pub before : Sides
   pub after : Sides
-  pub session : IsSession peer holder (2 ^ 64 - 1) end made before after
+  pub session : OverLink peer holder (2 ^ 64 - 1) end made link after
 
--- one turn: a link came and was served, or none
-abbrev pub IsHost : ℕ → ℕ → Option (List Call) → Waits → Waits → Type 0
+-- one turn: a link was handed out, and that link was served; or none was
+abbrev pub IsHost : ℕ → ℕ → Option (List Call) → Heard → Heard → Type 0
 IsHost peer holder None old new = IsIdle old new
-IsHost peer holder (Some made) old new = IsLater old new × IsServed peer holder made
+IsHost peer holder (Some made) old new = (link : Sides) × IsLater (link ∷ []) old new × IsServed peer holder made link
 
 abbrev pub links_of : Option (List Call) → ℕ
 links_of None = 0
 links_of (Some made) = 1
 
--- A listener accepts once in each turn. The k-th link is served with the holder k modulo 2^32.
-abbrev pub Hosts : ℕ → ℕ → List (Option (List Call)) → Waits → Waits → Type 0
+-- A listener accepts once in each turn. The k-th link that it hands out is served with the holder k modulo 2^32.
+abbrev pub Hosts : ℕ → ℕ → List (Option (List Call)) → Heard → Heard → Type 0
 Hosts peer k [] old new = new ≡ old
-Hosts peer k (turn ∷ turns) old new = (mid : Waits) × IsHost peer (k % 2 ^ 32) turn old mid × Hosts peer (k + links_of turn) turns mid new
+Hosts peer k (turn ∷ turns) old new = (mid : Heard) × IsHost peer (k % 2 ^ 32) turn old mid × Hosts peer (k + links_of turn) turns mid new
 
 abbrev pub calls_of : Option (List Call) → List Call
 calls_of None = []
@@ -74,7 +76,7 @@ IsTurnCount Turns made turns = made ≡ turns
 IsTurnCount (Spent t) made turns = made ≤ turns
 
 -- the turns of a port
-pub record ServesPort (peer turns : ℕ) (end : Ran) (old new : Desked) (before after : Waits) : Type 0 where
+pub record ServesPort (peer turns : ℕ) (end : Ran) (old new : Desked) (before after : Heard) : Type 0 where
   pub made : List (Option (List Call))
   pub calls : new.calls ≡ old.calls ++ sessions_made made
   pub hosts : Hosts peer 0 made before after
@@ -97,6 +99,22 @@ pub record CarriesLinks (links : List (As × As)) (turns : ℕ) (end : Ran) (old
   pub calls : new.calls ≡ old.calls ++ (joined rounds ++ last)
   pub each : AllByRecursion (λ (round : List Call). events round ≡ carries links) rounds
   pub ends : IsCarriedOff end links (length rounds) turns last
+
+-- the Carry of one of these pairs
+abbrev pub IsCarryOf : List (As × As) → Call → Type 0
+IsCarryOf links c = (pair : As × As) × Contains links pair × (c.event ≡ Carry pair.0 pair.1)
+
+-- no turn is made where there is no pair
+abbrev pub IsCarryCount : List (As × As) → Ran → ℕ → ℕ → Type 0
+IsCarryCount [] end made turns = made ≡ 0
+IsCarryCount (pair ∷ links) end made turns = IsTurnCount end made turns
+
+-- the turns of a carrier that has a guide: in each the Carry of one of the pairs
+pub record CarriesGuided (links : List (As × As)) (turns : ℕ) (end : Ran) (old new : Desked) : Type 0 where
+  pub made : List Call
+  pub calls : new.calls ≡ old.calls ++ made
+  pub each : AllByRecursion (IsCarryOf links) made
+  pub count : IsCarryCount links end (length made) turns
 
 -- ---- the time
 

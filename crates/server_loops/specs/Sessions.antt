@@ -4,6 +4,7 @@ use Rattle.std.specs.List.{flat_map, AllByRecursion}
 use Rattle.std.specs.Io.KnownBytes.{Appends, Consumes}
 use Rattle.std.specs.declared.option.Option.{Option}
 use Rattle.dom_edge.specs.Causes.{Rose}
+use Rattle.dom_edge.specs.Heeding.{Sides}
 use Rattle.dom_edge.specs.Streams.{Reading, Writing, IsRead}
 use Rattle.dom_edge.specs.Whole.{AppendsSome}
 use Rattle.dom_edge.specs.declared.stream.Got.{Got}
@@ -18,14 +19,6 @@ use Rattle.server_loops.specs.Desks.{Answer, Call, Desked, call}
 use Rattle.server_loops.specs.declared.desks.DeskRefused.TheVariants.{Plant}
 use Rattle.server_loops.specs.declared.sessions.Ended.{Ended}
 use Rattle.server_loops.specs.declared.sessions.Ended.TheVariants.{Closed, PeerEnd, ReadFault, WriteFault, Turns, NotOpened, Lost, Spent, NoMemory}
-
--- both sides of a link
-pub record Sides : Type 0 where
-  pub reading : Reading
-  pub writing : Writing
-
-abbrev pub sides : Reading → Writing → Sides
-sides r w = record { reading = r; writing = w }
 
 -- ---- what was drained and fed
 
@@ -82,11 +75,11 @@ pub record IsDrained (peer holder : ℕ) (ended : Bool) (first : Call) (old new 
   pub written : Appends old.written new.written (bytes_of outcome)
   pub later : old.faults ≤ new.faults
 
--- A turn as far as its read: a Drain that does not say ended, all of which is written, and then one read, of at most 65,536 bytes.
+-- A turn as far as its read: a Drain that does not say ended, all of which is written, and then one read, into room for 65,536 bytes.
 pub record HasRead (peer holder : ℕ) (answer : Got) (into : List ℕ) (first : Call) (old new : Sides) : Type 0 where
   pub drained : IsDrained peer holder false first old.writing new.writing
   pub read : IsRead old.reading new.reading answer into
-  pub room : length into ≤ 65536
+  pub room : length into ≡ 65536
 
 -- the piece that was read is fed, and nothing where none came by now
 abbrev pub IsFed : ℕ → Got → List ℕ → List Call → Type 0
@@ -241,11 +234,15 @@ HasCauses ReadFault old new = Rose old.reading.faults new.reading.faults
 HasCauses WriteFault old new = Rose old.writing.faults new.writing.faults
 HasCauses end old new = Unit {0}
 
--- A session: its events stand behind those before; what they drained was written, and what was read was fed.
-pub record Serves (peer holder turns : ℕ) (end : Ended) (old new : Desked) (before after : Sides) : Type 0 where
-  pub made : List Call
-  pub calls : new.calls ≡ old.calls ++ made
+-- A session over a link: its events in their order; what they drained was written, what was read was fed, and its end has its cause.
+pub record OverLink (peer holder turns : ℕ) (end : Ended) (made : List Call) (before after : Sides) : Type 0 where
   pub order : IsSession peer holder turns end made before after
   pub written : Writes end before.writing after.writing (drained made)
   pub fed : Feeds end before.reading after.reading (fed made)
   pub causes : HasCauses end before after
+
+-- The events of a session over that link stand behind those before.
+pub record Serves (peer holder turns : ℕ) (end : Ended) (old new : Desked) (before after : Sides) : Type 0 where
+  pub made : List Call
+  pub calls : new.calls ≡ old.calls ++ made
+  pub over : OverLink peer holder turns end made before after

@@ -5,14 +5,15 @@ use Rattle.std.specs.declared.option.Option.{Option}
 use Rattle.std.specs.declared.result.Result.{Result}
 use Rattle.std.specs.Io.KnownBytes.{Appends}
 use Rattle.dom_edge.specs.Causes.{Rose}
+use Rattle.dom_edge.specs.Heeding.{Sides, sides}
 use Rattle.dom_edge.specs.Streams.{Writing}
 use Rattle.dom_edge.specs.Whole.{AppendsSome}
 use Rattle.plant_model.specs.declared.event.Event.TheVariants.{Shut, Feed, Take, Carry, Tick}
 use Rattle.plant_model.specs.declared.outcome.Outcome.{Outcome}
 use Rattle.plant_model.specs.declared.outcome.Refused.TheVariants.{NoSuchPeer, NoMemory as NoRoom}
 use Rattle.server_loops.specs.Desks.{Answer, Call, Desked, Goes, call}
-use Rattle.server_loops.specs.Sessions.{Sides, sides, drained, joined, IsNone, refused, IsAccepted, AreTakes, IsDrained, IsTurn, IsRefused, AreTurns, IsCount, Last}
-use Rattle.server_loops.specs.Serving.{BeginsWith, Waits, calls_of, carries, events, links_of, IsHost}
+use Rattle.server_loops.specs.Sessions.{drained, joined, IsNone, refused, IsAccepted, AreTakes, IsDrained, IsTurn, IsRefused, AreTurns, IsCount, Last}
+use Rattle.server_loops.specs.Serving.{BeginsWith, Heard, calls_of, carries, events, links_of, IsCarryOf, IsHost}
 use Rattle.dom_base.specs.declared.names.As.{As}
 use Rattle.server_loops.specs.declared.desks.DeskRefused.{DeskRefused}
 use Rattle.server_loops.specs.declared.desks.DeskRefused.TheVariants as desk
@@ -149,10 +150,21 @@ pub record IsRound (links : List (As × As)) (result : Result (Unit {0}) ℕ) (o
   pub calls : new.calls ≡ old.calls ++ made
   pub rounds : Rounds links result made new
 
+-- the place, unless the desk is spent
+abbrev pub carried_at : ℕ → Answer → Result ℕ ℕ
+carried_at place (Ok o) = Ok place
+carried_at place (Err (desk.Plant why)) = Ok place
+carried_at place (Err (desk.Spent t)) = Err t
+
+-- one Carry of one of these pairs
+abbrev pub IsCarriedOf : List (As × As) → Result ℕ ℕ → Desked → Desked → Type 0
+IsCarriedOf links (Ok place) old new = (c : Call) × IsCarryOf links c × (new.calls ≡ old.calls ++ c ∷ [])
+IsCarriedOf links (Err t) old new = (new.calls ≡ old.calls) × (new.spent ≡ Some t)
+
 -- ---- a port
 
 -- one turn, with the number of the next link
-pub record IsHosted (peer holder later : ℕ) (old new : Desked) (before after : Waits) : Type 0 where
+pub record IsHosted (peer holder later : ℕ) (old new : Desked) (before after : Heard) : Type 0 where
   pub turn : Option (List Call)
   pub calls : new.calls ≡ old.calls ++ calls_of turn
   pub host : IsHost peer holder turn before after

@@ -1,8 +1,8 @@
 //! A line of an operator, as it comes in.
 ghost use Rattle.std.specs.Prelude.{◌≡◌, ◌≢◌, ◌≤◌, ◌∷◌, ◌++◌, ◌||◌, [], ℕ, List, None, Some, OnOk, IfErr, codes, false, length, nat_lt, true};
 ghost use Rattle.ted_watch.specs.Watch.{list_of, published};
-ghost use Rattle.server_loops.specs.Operating.{AreOfElements, Does, DoesEvent, context, line_most, past, progress};
-ghost use Rattle.plant_text.specs.Lines.{line_in};
+ghost use Rattle.server_loops.specs.Operating.{AreOfElements, Does, DoesAsked, context, line_most, past, progress};
+ghost use Rattle.plant_text.specs.OperatorLines.{line_in};
 ghost use Rattle.server_loops.specs.OperatorSteps.{EndsAs, Goes, IsBegun, file_of, text_of};
 ghost use Rattle.server_loops.specs.Texts.{bad_line_text, too_large_text};
 ghost use Rattle.server_loops.specs.declared.operating.Operated.TheVariants.{NoMemory};
@@ -13,7 +13,7 @@ use crate::operating::Operated;
 use crate::texts::{write_too_large, write_words};
 use dom_base::{As, Text};
 use dom_edge::Store;
-use plant_text::{LineError, LineEvent, Network, read_line};
+use plant_text::{LineError, Network, OperatorLine, read_operator_line};
 use std::alloc::Global;
 use std::sync::Wait;
 use ted_watch::Publisher;
@@ -101,28 +101,21 @@ impl Begun {
 }
 
 // The file that a line names, behind whether it has changes.
-fn file_of(event: LineEvent) -> Option<(bool, As, Text)>
-    ensures { result ≡ file_of event }
+fn file_of(asked: OperatorLine) -> Option<(bool, As, Text)>
+    ensures { result ≡ file_of asked }
 {
-    match event {
-        LineEvent::Load(at, name) => Some((false, at, name)),
-        LineEvent::Change(at, name) => Some((true, at, name)),
-        LineEvent::Open(..) => None,
-        LineEvent::Shut(_) => None,
-        LineEvent::Feed(..) => None,
-        LineEvent::Carry(..) => None,
-        LineEvent::Break(..) => None,
-        LineEvent::Solve(..) => None,
-        LineEvent::Tick(_) => None,
-        LineEvent::Drain(..) => None,
-        LineEvent::Settle => None,
-        LineEvent::Finish => None,
-        LineEvent::CertifyOn => None,
-        LineEvent::DiscloseOn => None,
+    match asked {
+        OperatorLine::Load(at, name) => Some((false, at, name)),
+        OperatorLine::Change(at, name) => Some((true, at, name)),
+        OperatorLine::Stop => None,
+        OperatorLine::Show(_) => None,
+        OperatorLine::Shut(_) => None,
+        OperatorLine::Break(..) => None,
+        OperatorLine::Write(..) => None,
     }
 }
 
-// What is said of a line that no operator may write.
+// What is said of a line that is outside the form, or that asks for what is not done here.
 fn tell_bad_line(number: u32, into: &mut Vec<u8>) -> Result<(), Operated>
     ensures told { OnOk result (into.new.items ≡ into.old.items ++ bad_line_text number) }
     ensures lack { IfErr result (λ end. end ≡ NoMemory) }
@@ -132,25 +125,25 @@ fn tell_bad_line(number: u32, into: &mut Vec<u8>) -> Result<(), Operated>
 }
 
 // Does what a line says.
-fn do_event<T: Store, D: Chart, R: Wait + Drop>(
+fn do_asked<T: Store, D: Chart, R: Wait + Drop>(
     alloc: Global,
     desk: &mut D,
     store: &mut T,
     network: &Network,
     publisher: &mut Publisher<R>,
     number: u32,
-    event: LineEvent,
+    asked: OperatorLine,
     into: &mut Vec<u8>,
 ) -> Result<(), Operated>
     requires elements { AreOfElements network.now (published publisher.old) }
     requires fresh { (D.charted desk.old).spent ≡ None }
-    ensures goes { Goes (DoesEvent (context network.now (T.files store.old)) number (Some (Some event)) (progress (D.charted desk.old) (published publisher.old) (T.faults store.old) (T.failed_at store.old)) (progress (D.charted desk.new) (published publisher.new) (T.faults store.new) (T.failed_at store.new))) result (past (D.charted desk.old) (published publisher.old)) (past (D.charted desk.new) (published publisher.new)) (D.charted desk.new).spent into.old.items into.new.items }
+    ensures goes { Goes (DoesAsked (context network.now (T.files store.old)) number (Some (Some asked)) (progress (D.charted desk.old) (published publisher.old) (T.faults store.old) (T.failed_at store.old)) (progress (D.charted desk.new) (published publisher.new) (T.faults store.new) (T.failed_at store.new))) result (past (D.charted desk.old) (published publisher.old)) (past (D.charted desk.new) (published publisher.new)) (D.charted desk.new).spent into.old.items into.new.items }
     ensures elements { AreOfElements network.now (published publisher.new) }
     ensures list { list_of publisher.new ≡ list_of publisher.old }
     ensures later { T.faults store.old ≤ T.faults store.new }
     ensures files { T.files store.new ≡ T.files store.old }
 {
-    match file_of(event) {
+    match file_of(asked) {
         Some((is_change, at, name)) => {
             let name = name.as_str();
             let line = FileLine {
@@ -178,14 +171,14 @@ fn do_text<T: Store, D: Chart, R: Wait + Drop>(
 ) -> Result<(), Operated>
     requires elements { AreOfElements network.now (published publisher.old) }
     requires fresh { (D.charted desk.old).spent ≡ None }
-    ensures goes { Goes (DoesEvent (context network.now (T.files store.old)) number (line_in network.now text.now) (progress (D.charted desk.old) (published publisher.old) (T.faults store.old) (T.failed_at store.old)) (progress (D.charted desk.new) (published publisher.new) (T.faults store.new) (T.failed_at store.new))) result (past (D.charted desk.old) (published publisher.old)) (past (D.charted desk.new) (published publisher.new)) (D.charted desk.new).spent into.old.items into.new.items }
+    ensures goes { Goes (DoesAsked (context network.now (T.files store.old)) number (line_in network.now text.now) (progress (D.charted desk.old) (published publisher.old) (T.faults store.old) (T.failed_at store.old)) (progress (D.charted desk.new) (published publisher.new) (T.faults store.new) (T.failed_at store.new))) result (past (D.charted desk.old) (published publisher.old)) (past (D.charted desk.new) (published publisher.new)) (D.charted desk.new).spent into.old.items into.new.items }
     ensures elements { AreOfElements network.now (published publisher.new) }
     ensures list { list_of publisher.new ≡ list_of publisher.old }
     ensures later { T.faults store.old ≤ T.faults store.new }
     ensures files { T.files store.new ≡ T.files store.old }
 {
-    match read_line(alloc, text, network) {
-        Ok(Some(event)) => do_event(alloc, desk, store, network, publisher, number, event, into),
+    match read_operator_line(alloc, text, network) {
+        Ok(Some(asked)) => do_asked(alloc, desk, store, network, publisher, number, asked, into),
         Ok(None) => Ok(()),
         Err(LineError::Outside) => tell_bad_line(number, into),
         Err(LineError::NoMemory) => Err(Operated::NoMemory),

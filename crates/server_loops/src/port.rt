@@ -1,6 +1,6 @@
 //! A port that serves one connection after the other.
 ghost use Rattle.std.specs.Prelude.{◌≡◌, ◌↔◌, ℕ, Some};
-ghost use Rattle.server_loops.specs.Serving.{waits, ServesPort};
+ghost use Rattle.server_loops.specs.Serving.{heard, ServesPort};
 ghost use Rattle.server_loops.specs.Steps.{IsHosted};
 ghost use Rattle.server_loops.specs.declared.port.Ran.TheVariants.{Spent as SpentAt};
 
@@ -28,8 +28,10 @@ fn accept_once<K: Listener, D: Desk>(
     holder: u32,
     listener: &mut K,
 ) -> u32
-    ensures hosted { IsHosted peer holder result (D.desked desk.old) (D.desked desk.new) (waits (K.faults listener.old) (K.quiets listener.old)) (waits (K.faults listener.new) (K.quiets listener.new)) }
+    ensures hosted { IsHosted peer holder result (D.desked desk.old) (D.desked desk.new) (heard (K.faults listener.old) (K.quiets listener.old) (K.handed listener.old)) (heard (K.faults listener.new) (K.quiets listener.new) (K.handed listener.new)) }
     ensures port { K.opened_at listener.new ≡ K.opened_at listener.old }
+    ensures heeds { K.heeds listener.new ≡ K.heeds listener.old }
+    ensures dials { K.dialled_to listener.new ≡ K.dialled_to listener.old }
 {
     match listener.accept() {
         Accepted::Link(link) => {
@@ -41,7 +43,7 @@ fn accept_once<K: Listener, D: Desk>(
     }
 }
 
-/// Accepts once in each turn, and serves each connection to its end, under a number of its own.
+/// Accepts once in each turn, and serves the connection that came to its end, under a number of its own.
 #[tactic(auto, using(crate::proofs::Hosting::none_hosted, crate::proofs::Hosting::one_hosted, crate::proofs::Hosting::all_hosted, crate::proofs::Hosting::cut_hosted))]
 pub fn serve_port<K: Listener, D: Desk>(
     alloc: Global,
@@ -50,9 +52,11 @@ pub fn serve_port<K: Listener, D: Desk>(
     listener: &mut K,
     turns: u64,
 ) -> Ran
-    ensures serves { ServesPort peer turns result (D.desked desk.old) (D.desked desk.new) (waits (K.faults listener.old) (K.quiets listener.old)) (waits (K.faults listener.new) (K.quiets listener.new)) }
+    ensures serves { ServesPort peer turns result (D.desked desk.old) (D.desked desk.new) (heard (K.faults listener.old) (K.quiets listener.old) (K.handed listener.old)) (heard (K.faults listener.new) (K.quiets listener.new) (K.handed listener.new)) }
     ensures spent { (t : ℕ) → (result ≡ SpentAt t) ↔ ((D.desked desk.new).spent ≡ Some t) }
     ensures port { K.opened_at listener.new ≡ K.opened_at listener.old }
+    ensures heeds { K.heeds listener.new ≡ K.heeds listener.old }
+    ensures dials { K.dialled_to listener.new ≡ K.dialled_to listener.old }
 {
     let mut holder = 0u32;
     for _turn in 0..turns {

@@ -1,6 +1,7 @@
 //! A session over a link.
 ghost use Rattle.std.specs.Prelude.{◌≡◌, ◌≤◌, ◌<◌, ◌↔◌, ℕ, length, IfOk, Some, None};
-ghost use Rattle.server_loops.specs.Sessions.{sides, Serves};
+ghost use Rattle.dom_edge.specs.Heeding.{sides};
+ghost use Rattle.server_loops.specs.Sessions.{Serves};
 ghost use Rattle.server_loops.specs.Steps.{AreServed, IsEndOfOpen, IsClosedBy, shown};
 ghost use Rattle.server_loops.specs.declared.sessions.Ended.TheVariants.{Spent as SpentAt};
 
@@ -27,12 +28,12 @@ pub enum Ended {
     NoMemory,
 }
 
-// How many bytes a turn reads at most.
+// For how many bytes a turn has room.
 const ROOM: usize = 65_536;
 
 // Room for what a turn reads.
 fn room(alloc: Global) -> Result<Vec<u8>, NoMemory>
-    ensures { IfOk result (λ buffer. (0 < length buffer.items) × (length buffer.items ≤ 65536)) }
+    ensures { IfOk result (λ buffer. length buffer.items ≡ 65536) }
 {
     Ok(vec![in alloc; 0u8; ROOM]?)
 }
@@ -49,8 +50,7 @@ fn serve_turns<L: Wire, D: Desk>(
     turns: u64,
 ) -> Ended
     requires unspent { (D.desked desk.old).spent ≡ None }
-    requires some { 0 < length buffer.old }
-    requires room { length buffer.old ≤ 65536 }
+    requires room { length buffer.old ≡ 65536 }
     ensures { AreServed peer holder turns result (D.desked desk.old) (D.desked desk.new) (sides (L.reading link.old) (L.writing link.old)) (sides (L.reading link.new) (L.writing link.new)) }
 {
     for _turn in 0..turns {

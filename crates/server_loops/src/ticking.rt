@@ -1,5 +1,6 @@
 //! What tells the time.
-ghost use Rattle.std.specs.Prelude.{◌≡◌, ◌≤◌, ◌+◌, ◌-◌, ◌^◌, min};
+ghost use Rattle.std.specs.Prelude.{◌≡◌};
+ghost use Rattle.dom_edge.specs.Causes.{counted_on};
 ghost use Rattle.server_loops.specs.Serving.{TellsTime};
 ghost use Rattle.server_loops.specs.Steps.{IsTold};
 
@@ -23,7 +24,7 @@ fn tell<D: Desk>(desk: &mut D, told: u64, now: Tick) -> u64
 #[tactic(auto, using(crate::proofs::Telling::none_told, crate::proofs::Telling::all_told))]
 pub fn tick_on<D: Desk, C: Clock>(desk: &mut D, clock: &mut C, turns: u64)
     ensures tells { TellsTime turns (D.desked desk.old) (D.desked desk.new) (C.last clock.old) (C.last clock.new) }
-    ensures counted { min (C.readings clock.old + turns) (2 ^ 64 - 1) ≤ C.readings clock.new }
+    ensures counted { C.readings clock.new ≡ counted_on turns (C.readings clock.old) }
 {
     let mut told = 0u64;
     for _turn in 0..turns {

@@ -1,6 +1,6 @@
 //! One turn of a session.
-ghost use Rattle.std.specs.Prelude.{◌≡◌, ◌≤◌, ◌<◌, length, None};
-ghost use Rattle.server_loops.specs.Sessions.{sides};
+ghost use Rattle.std.specs.Prelude.{◌≡◌, length, None};
+ghost use Rattle.dom_edge.specs.Heeding.{sides};
 ghost use Rattle.server_loops.specs.Steps.{IsEndOf, IsHandedOn, Drains, IsHanded, IsTaken, IsReceived, IsTurned};
 
 use crate::desks::{Desk, DeskRefused};
@@ -86,8 +86,7 @@ fn receive<L: Wire, D: Desk>(
     buffer: &mut [u8],
 ) -> Result<(), Ended>
     requires unspent { (D.desked desk.old).spent ≡ None }
-    requires some { 0 < length buffer.old }
-    requires room { length buffer.old ≤ 65536 }
+    requires room { length buffer.old ≡ 65536 }
     ensures { IsReceived peer result (D.desked desk.old) (D.desked desk.new) (sides (L.reading link.old) (L.writing link.old)) (sides (L.reading link.new) (L.writing link.new)) }
 {
     match link.read(buffer) {
@@ -108,8 +107,7 @@ pub(crate) fn turn<L: Wire, D: Desk>(
     link: &mut L,
     buffer: &mut [u8],
 ) -> Result<(), Ended>
-    requires some { 0 < length buffer.old }
-    requires room { length buffer.old ≤ 65536 }
+    requires room { length buffer.old ≡ 65536 }
     ensures turned { IsTurned peer holder result (D.desked desk.old) (D.desked desk.new) (sides (L.reading link.old) (L.writing link.old)) (sides (L.reading link.new) (L.writing link.new)) }
     ensures buffer { length buffer.new ≡ length buffer.old }
 {

@@ -7,13 +7,14 @@ ghost use Rattle.te_links.specs.Faults.{IsReason, rows_of_parts};
 use crate::checks::check;
 use crate::fault::BuildError;
 use crate::index::{ends_of, links_by};
+use crate::places::Hints;
 use crate::rows::Parts;
 use crate::survey::Survey;
 use crate::topology::Topology;
 use std::alloc::{AllocError, Global};
 
 // The topology with these rows, which obey the rules.
-fn assemble(alloc: Global, parts: Parts) -> Result<Topology, AllocError>
+fn assemble(alloc: Global, parts: Parts, hints: Hints) -> Result<Topology, AllocError>
     requires rules { IsTopology (rows_of_parts parts) }
     requires short { length parts.entries < 2 ^ 32 }
     ensures built { IfOk result (IsBuilt (rows_of_parts parts)) }
@@ -33,10 +34,10 @@ fn assemble(alloc: Global, parts: Parts) -> Result<Topology, AllocError>
     links.sort_by_key(|l| l.far)?;
     outs.sort_by_key(|o| o.link.far)?;
     entries.sort()?;
-    let ends = ends_of(alloc, &nodes, &links)?;
+    let ends = ends_of(alloc, &nodes, &hints, &links)?;
     let into = links_by(alloc, nodes.len(), &ends.heads)?;
     let leaving = links_by(alloc, nodes.len(), &ends.tails)?;
-    Ok(Topology::of(own, nodes, links, outs, entries, into, leaving, ends))
+    Ok(Topology::of(own, nodes, links, outs, entries, hints, into, leaving, ends))
 }
 
 impl Topology {
@@ -50,6 +51,6 @@ impl Topology {
     {
         let survey = Survey::of(alloc, &parts)?;
         check(&parts, &survey)?;
-        Ok(assemble(alloc, parts)?)
+        Ok(assemble(alloc, parts, survey.hints)?)
     }
 }

@@ -8,7 +8,7 @@ ghost use Rattle.te_links.specs.Survey.{IsSurvey};
 ghost use Rattle.te_links.specs.Checks.{IsFirstRule, NoneOf, IsReasonOf, first_broken};
 
 use crate::fault::{BuildError, Row, RowKind, TopoFault};
-use crate::index::place_of;
+use crate::places::{Hints, place_near};
 use crate::rows::{Entry, Parts};
 use crate::survey::Survey;
 use crate::{ENTRIES_MAX, LINKS_MAX, METRIC_MAX, NODES_MAX, OUTS_MAX, SRLGS_MAX};
@@ -83,11 +83,11 @@ fn is_foreign(own: As, other: As) -> bool
     other != own && other.0 >= 1
 }
 
-fn is_node(nodes: &[Addr], addr: Addr) -> bool
+fn is_node(nodes: &[Addr], hints: &Hints, addr: Addr) -> bool
     requires { AllPairs (λ a b. rank a ≤ rank b) nodes.now }
     ensures { Decides result (Contains nodes.now addr) }
 {
-    place_of(nodes, addr).is_some()
+    place_near(nodes, hints, addr).is_some()
 }
 
 // Whether an inner link is past the limit, or has too many shared risk groups.
@@ -97,11 +97,11 @@ fn is_link_past(link: &Link, i: usize) -> bool
     i >= LINKS_MAX || link.srlgs.len() > SRLGS_MAX
 }
 
-fn has_unknown_end(nodes: &[Addr], link: &Link) -> bool
+fn has_unknown_end(nodes: &[Addr], hints: &Hints, link: &Link) -> bool
     requires { AllPairs (λ a b. rank a ≤ rank b) nodes.now }
     ensures { Decides result ((¬ Contains nodes.now link.now.from) ⊎ (¬ Contains nodes.now link.now.to)) }
 {
-    !is_node(nodes, link.from) || !is_node(nodes, link.to)
+    !is_node(nodes, hints, link.from) || !is_node(nodes, hints, link.to)
 }
 
 // The first rule that an inner link breaks.
@@ -114,7 +114,7 @@ fn link_fault(parts: &Parts, survey: &Survey, i: usize) -> Option<TopoFault>
     first_rule(Broken {
         too_many: is_link_past(link, i),
         duplicate_node: false,
-        unknown_node: has_unknown_end(&survey.nodes, link),
+        unknown_node: has_unknown_end(&survey.nodes, &survey.hints, link),
         own_as: false,
         bad_metric: has_bad_metric(link),
         duplicate_near: survey.same_near[i] > 0,
@@ -142,7 +142,7 @@ fn out_fault(parts: &Parts, survey: &Survey, i: usize) -> Option<TopoFault>
     first_rule(Broken {
         too_many: is_out_past(link, i, survey.tails_end),
         duplicate_node: false,
-        unknown_node: !is_node(&survey.nodes, link.from),
+        unknown_node: !is_node(&survey.nodes, &survey.hints, link.from),
         own_as: !is_foreign(parts.own, out.to_as),
         bad_metric: has_bad_metric(link),
         duplicate_near: survey.same_near[place] > 0,
@@ -169,7 +169,7 @@ fn entry_fault(parts: &Parts, survey: &Survey, i: usize, entry: Entry) -> Option
     first_rule(Broken {
         too_many: is_entry_past(survey.same_domain[i], i, survey.entry_nodes_end),
         duplicate_node: false,
-        unknown_node: !is_node(&survey.nodes, entry.node),
+        unknown_node: !is_node(&survey.nodes, &survey.hints, entry.node),
         own_as: !is_foreign(parts.own, entry.from_as),
         bad_metric: false,
         duplicate_near: false,

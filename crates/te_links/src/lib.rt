@@ -9,6 +9,7 @@ mod fault;
 mod index;
 mod limits;
 mod links;
+mod places;
 mod rows;
 mod survey;
 mod topology;

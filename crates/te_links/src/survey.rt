@@ -6,6 +6,7 @@ ghost use Rattle.dom_base.specs.AddrOrder.{rank};
 ghost use Rattle.te_links.specs.Faults.{rows_of_parts};
 ghost use Rattle.te_links.specs.Survey.{CountsBefore, IsFewUpTo, IsSurvey, TellsRepeats};
 
+use crate::places::Hints;
 use crate::rows::Parts;
 use crate::{ENTRY_NODES_MAX, TAILS_MAX};
 use dom_base::{Addr, As, stands};
@@ -17,6 +18,7 @@ use std::collections::BTreeMap;
 #[derive(Drop)]
 pub(crate) struct Survey {
     pub(crate) nodes: Vec<Addr>,
+    pub(crate) hints: Hints,
 
     // for each row how many rows before it have the same
     pub(crate) same_node: Vec<usize>,
@@ -57,13 +59,25 @@ fn rises(addrs: &[Addr]) -> bool
     true
 }
 
-// Whether no address is there twice.
-fn all_differ(alloc: Global, addrs: &[Addr]) -> Result<bool, AllocError>
+// Whether no address is there twice, by a sort.
+fn differ_sorted(alloc: Global, addrs: &[Addr]) -> Result<bool, AllocError>
     ensures { IfOk result (λ differ. Decides differ (AllPairs (λ a b. a ≢ b) addrs.now)) }
 {
     let mut sorted = Vec::from_slice(alloc, addrs)?;
     sorted.sort_unstable();
     Ok(rises(&sorted))
+}
+
+// Whether no address is there twice. Rows mostly come in the order of their addresses: then nothing
+// is copied.
+#[tactic(auto, using(crate::proofs::Different::risen_differ))]
+fn all_differ(alloc: Global, addrs: &[Addr]) -> Result<bool, AllocError>
+    ensures { IfOk result (λ differ. Decides differ (AllPairs (λ a b. a ≢ b) addrs.now)) }
+{
+    if rises(addrs) {
+        return Ok(true);
+    }
+    differ_sorted(alloc, addrs)
 }
 
 // For each address how often it stands among those before it: never, in a topology, and a sort
@@ -144,6 +158,7 @@ impl Survey {
         let mut nodes = Vec::from_slice(alloc, parts.nodes.as_slice())?;
         let same_node = repeats_of(alloc, &nodes)?;
         nodes.sort()?;
+        let hints = Hints::of(alloc, &nodes)?;
         let nears = nears_of(alloc, parts)?;
         let fars = fars_of(alloc, parts)?;
         let domains = domains_of(alloc, parts)?;
@@ -151,6 +166,7 @@ impl Survey {
         let entry_nodes = entry_nodes_of(alloc, parts)?;
         Ok(Survey {
             nodes,
+            hints,
             same_node,
             same_near: repeats_of(alloc, &nears)?,
             same_far: repeats_of(alloc, &fars)?,

@@ -3,7 +3,8 @@ ghost use Rattle.std.specs.Prelude.{◌≡◌, ◌↔◌, ◌<◌, ◌^◌, ℕ,
 ghost use Rattle.te_links.specs.Rows.{IsTopology, IsInOrder};
 ghost use Rattle.te_links.specs.Index.{IsIndex, IsLinksInto, IsIndexFrom, IsLinksFrom, IsLinkAt, AreTails, AreHeads, LinkBeginsAt, LinkEndsAt};
 
-use crate::index::{Ends, place_of, place_of_far};
+use crate::index::Ends;
+use crate::places::{Hints, place_near, place_of_far};
 use crate::rows::{Entry, OutLink};
 use dom_base::{Addr, As, Link};
 use std::alloc::Global;
@@ -18,6 +19,7 @@ pub struct Topology {
     links: Vec<Link>,
     outs: Vec<OutLink>,
     entries: Vec<Entry>,
+    hints: Hints,
     into: Vec<Vec<u32>>,
     leaving: Vec<Vec<u32>>,
     ends: Ends,
@@ -32,6 +34,7 @@ impl Drop for Topology {
             links: _,
             outs: _,
             entries: _,
+            hints: _,
             into: _,
             leaving: _,
             ends: _,
@@ -58,6 +61,7 @@ impl Topology {
         links: Vec<Link>,
         outs: Vec<OutLink>,
         entries: Vec<Entry>,
+        hints: Hints,
         into: Vec<Vec<u32>>,
         leaving: Vec<Vec<u32>>,
         ends: Ends,
@@ -77,6 +81,7 @@ impl Topology {
             links,
             outs,
             entries,
+            hints,
             into,
             leaving,
             ends,
@@ -97,6 +102,7 @@ impl Topology {
             links: Vec::new(alloc),
             outs: Vec::new(alloc),
             entries: Vec::new(alloc),
+            hints: Hints::none(alloc),
             into: Vec::new(alloc),
             leaving: Vec::new(alloc),
             ends: Ends::none(alloc),
@@ -200,7 +206,7 @@ impl Topology {
     pub fn find_node(&self, addr: Addr) -> Option<u32>
         ensures { MatchOption result (¬ Contains self.now.nodes addr) (λ i. slice_get self.now.nodes i ≡ Some addr) }
     {
-        let place = place_of(&self.nodes, addr)?;
+        let place = place_near(&self.nodes, &self.hints, addr)?;
         Some(place as u32)
     }
 

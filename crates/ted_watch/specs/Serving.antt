@@ -4,20 +4,13 @@ use Rattle.std.specs.List.{flat_map}
 use Rattle.std.specs.declared.option.Option.{Option}
 use Rattle.std.specs.Io.KnownBytes.{Appends, Consumes}
 use Rattle.dom_edge.specs.Causes.{Rose}
-use Rattle.dom_edge.specs.Streams.{Reading, Writing}
+use Rattle.dom_edge.specs.Streams.{Writing}
+pub use Rattle.dom_edge.specs.Heeding.{Sides, sides}
 use Rattle.dom_edge.specs.Whole.{AppendsSome}
 use Rattle.ted_watch.specs.declared.shown.Shown.{Shown}
 use Rattle.ted_watch.specs.Answers.{AreAnswered}
 use Rattle.ted_watch.specs.declared.serving.Watched.{Watched}
 use Rattle.ted_watch.specs.declared.serving.Watched.TheVariants.{PeerEnd, ReadFault, WriteFault, LongLine, Turns, NoMemory}
-
--- both sides of a connection
-pub record Sides : Type 0 where
-  pub reading : Reading
-  pub writing : Writing
-
-abbrev pub sides : Reading → Writing → Sides
-sides r w = record { reading = r; writing = w }
 
 -- ---- lines
 

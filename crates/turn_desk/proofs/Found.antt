@@ -1,5 +1,5 @@
 -- What stands in a list that was picked from another stands in that one.
-use Rattle.std.proofs.Common.{◌≡◌, ℕ, zero, suc, List, [], ◌∷◌, ◌++◌, take, drop, ap, subst, refl, inl, inr, Option, Some, None}
+use Rattle.std.proofs.Common.{◌≡◌, ◌∙◌, ℕ, zero, suc, List, [], ◌∷◌, ◌++◌, take, drop, ap, subst, refl, inl, inr, Option, Some, None}
 use Rattle.std.specs.Prelude.{Contains}
 use Rattle.std.specs.List.{filter_map, cons_option}
 use Rattle.std.proofs.lemmas.List.Elements.{Contains-append_cases}
@@ -42,3 +42,20 @@ module _ {X Y : Type 0} (f : X → Option Y) where
   pub picked_from : (xs : List X) (y : Y) → Contains (filter_map f xs) y → Source xs y
   picked_from [] y is = absurd (contains_none y is)
   picked_from (x ∷ xs) y is = first_or x xs y (picked_from xs y) (f x) refl is
+
+-- and what it gives of an item stands there
+module _ {X Y : Type 0} (f : X → Option Y) where
+  at_head : (o : Option Y) (ys : List Y) (y : Y) → o ≡ Some y → Contains (cons_option o ys) y
+  at_head None ys y is = absurd (let no : ⊥ = cc in no)
+  at_head (Some z) ys y is = let same : z ≡ y = cc in subst (λ (v : Y). Contains (z ∷ ys) v) same (contains_head z ys)
+
+  behind : (o : Option Y) (ys : List Y) (y : Y) → Contains ys y → Contains (cons_option o ys) y
+  behind None ys y is = is
+  behind (Some z) ys y is = contains_tail z ys y is
+
+  pub picked_in : (xs : List X) (x : X) (y : Y) → Contains xs x → f x ≡ Some y → Contains (filter_map f xs) y
+  picked_in [] x y is at = absurd (contains_none x is)
+  picked_in (z ∷ zs) x y is at = elim (contains_cases z zs x is) [
+    | inl same ↦ at_head (f z) (filter_map f zs) y (ap f same ∙ at)
+    | inr rest ↦ behind (f z) (filter_map f zs) y (picked_in zs x y rest at)
+  ]

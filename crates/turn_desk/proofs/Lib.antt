@@ -3,4 +3,5 @@ pub mod Runs
 pub mod Beginning
 pub mod Turning
 pub mod Charting
+pub mod Benching
 pub mod Crossing

@@ -2,3 +2,5 @@
 pub mod Histories
 pub mod Desks
 pub mod Charts
+pub mod Works
+pub mod WorkBenches

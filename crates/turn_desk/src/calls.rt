@@ -8,7 +8,6 @@ ghost use Rattle.turn_desk.specs.Desks.{IsDone, IsFinish, IsOneTurn, IsTurn, ben
 
 use crate::answers::{committed_in, did_in, found_in, looked_in};
 use crate::desk::TurnDesk;
-use crate::naps::Asked;
 use dom_base::{As, NoMemory};
 use plant_network::model::{Event, Outcome, Refused};
 use plant_network::{Act, Done, Refusal, Work};
@@ -29,27 +28,24 @@ fn told(answer: Result<Outcome, Refusal<Done>>) -> Finished
     }
 }
 
-impl<R: Wait + Clock> TurnDesk<R> {
-    // Counts an answer of the network.
-    fn hear(&mut self, asked: Option<Asked>, is_idle: bool)
-        ensures { stand_of self.new ≡ stand_of self.old }
-    {
-        match asked {
-            Some(asked) if is_idle => self.idle.go_on(&self.rt, asked),
-            _ => self.idle.end(),
-        }
+// The outside peer of the session that a desk opened last, behind this event.
+fn own_by(event: &Event, own: Option<u32>) -> Option<u32> {
+    match event {
+        Event::Open(peer, _holder) => Some(*peer),
+        _ => own,
     }
+}
 
+impl<R: Wait + Clock> TurnDesk<R> {
     // Makes an event.
     pub(crate) fn make(&mut self, event: Event) -> Result<Outcome, DeskRefused>
         requires { desk.IsOwnLoad event }
         ensures { IsTurn (Do event) (did_by result) (stand_of self.old) (stand_of self.new) }
     {
-        let asked = Asked::by(&event);
+        self.own = own_by(&event, self.own);
         match self.turn(Act::Do(event)) {
             Ok(acted) => {
                 let answer = did_in(acted);
-                self.hear(asked, matches!(answer, Err(Refused::NothingToCarry)));
                 match answer {
                     Ok(outcome) => Ok(outcome),
                     Err(why) => Err(DeskRefused::Plant(why)),
@@ -87,12 +83,10 @@ impl<R: Wait + Clock> Bench for TurnDesk<R> {
         ensures goes { bench.Goes (benched_of (stand_of self.old)) (benched_of (stand_of self.new)) (bench.Ready k result) }
         ensures turn { IsOneTurn (AskReady k) (λ acted. acted ≡ Found result) (stand_of self.old) (stand_of self.new) }
     {
-        let found = match self.turn(Act::Ready(k)) {
+        match self.turn(Act::Ready(k)) {
             Ok(acted) => found_in(acted),
-            Err(_number) => return None,
-        };
-        self.hear(Some(Asked::Ready(k)), found.is_none());
-        found
+            Err(_number) => None,
+        }
     }
 
     fn look(&mut self, at: As, number: u64) -> Result<Option<Work>, NoMemory>

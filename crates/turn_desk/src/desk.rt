@@ -3,7 +3,7 @@ ghost use Rattle.std.specs.Arc.{arc_value};
 ghost use Rattle.plant_lock.specs.Seats.{IsAt, view_of};
 ghost use Rattle.turn_desk.specs.Histories.{Begins};
 
-use crate::naps::Idle;
+use crate::bells::Bells;
 use plant_lock::{TurnSeat, Turnstile};
 use plant_network::Plant;
 use std::alloc::Global;
@@ -13,14 +13,15 @@ use std::time::Clock;
 /// A seat at the lock of a network. Each call makes one turn with just its act, until a turn is refused since the tickets are
 /// used up: from then on none is made.
 ///
-/// A desk that finds nothing to do naps before it answers, for four milliseconds at most: where a whole round of the same
-/// questions, which message is to be carried or which job can be solved, found nothing.
+/// Behind each turn it rings those whom the turn stirred, where it has a board of bells.
 pub struct TurnDesk<R: Wait + Clock> {
     pub(crate) rt: R,
     pub(crate) lock: Arc<Turnstile<Plant>, Global>,
     pub(crate) seat: TurnSeat<Plant>,
     pub(crate) spent_at: Option<u64>,
-    pub(crate) idle: Idle,
+    pub(crate) bells: Option<Arc<Bells, Global>>,
+    // the outside peer whose session this desk opened last
+    pub(crate) own: Option<u32>,
     ghost here: { IsAt (arc_value lock) seat },
     ghost begun: { Begins (view_of seat).start },
 }
@@ -33,7 +34,8 @@ impl<R: Wait + Clock + Drop> Drop for TurnDesk<R> {
             lock: _,
             seat: _,
             spent_at: _,
-            idle: _,
+            bells: _,
+            own: _,
         } = self;
     }
 }

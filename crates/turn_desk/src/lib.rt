@@ -5,10 +5,19 @@
 #![tactic(auto)]
 
 mod answers;
+mod bells;
 mod calls;
 mod chart;
+mod claims;
 mod desk;
-mod naps;
+mod finding;
+mod guide;
+mod notes;
+mod rounds;
 mod turns;
+mod workbench;
+mod working;
 
 pub use desk::TurnDesk;
+pub use notes::Note;
+pub use workbench::WorkBench;

@@ -7,17 +7,29 @@ ghost use Rattle.turn_desk.specs.Desks.{IsTurn, opened_by, shares_at, split_from
 ghost use Rattle.turn_desk.specs.Histories.{Begins, NoneIsPending};
 ghost use Rattle.plant_network.specs.Topologies.{whole};
 
+use crate::bells::Bells;
 use crate::desk::TurnDesk;
-use crate::naps::Idle;
-use dom_base::NoMemory;
+use dom_base::{As, NoMemory};
+use dom_edge::Bell;
 use plant_lock::{Spent, SplitError, TurnSeat, Turnstile};
-use plant_network::{Act, Acted, Plant};
+use plant_network::{Act, Acted, Plant, Stirred};
 use std::alloc::Global;
 use std::sync::{Arc, Wait};
 use std::time::Clock;
 
+// The same board for another desk.
+fn shared(bells: &Option<Arc<Bells, Global>>) -> Result<Option<Arc<Bells, Global>>, NoMemory> {
+    let Some(bells) = bells else {
+        return Ok(None);
+    };
+    match Arc::try_clone(bells) {
+        Ok(bells) => Ok(Some(bells)),
+        Err(_) => Err(NoMemory),
+    }
+}
+
 impl<R: Wait + Clock> TurnDesk<R> {
-    /// A desk over a lock and a seat of it. It takes no memory.
+    /// A desk over a lock and a seat of it. It takes no memory, and rings nobody.
     pub fn new(rt: R, lock: Arc<Turnstile<Plant>, Global>, seat: TurnSeat<Plant>) -> Self
         requires here { IsAt (arc_value lock) seat }
         requires begun { Begins (view_of seat).start }
@@ -29,7 +41,30 @@ impl<R: Wait + Clock> TurnDesk<R> {
             lock,
             seat,
             spent_at: None,
-            idle: Idle::new(),
+            bells: None,
+            own: None,
+        }
+    }
+
+    /// From now on this bell wakes the thread of that peer.
+    pub fn hang(&self, peer: u32, bell: Bell) {
+        if let Some(bells) = &self.bells {
+            bells.hang(peer, bell);
+        }
+    }
+
+    /// From now on the carrier is told along which of these ways messages wait.
+    pub fn tell_ways(&self, alloc: Global, ways: &[(As, As)]) -> Result<(), NoMemory> {
+        match &self.bells {
+            Some(bells) => bells.set_ways(alloc, ways),
+            None => Ok(()),
+        }
+    }
+
+    // Rings whom a turn of this desk stirred.
+    fn ring(&self, stirred: &Stirred) {
+        if let Some(bells) = &self.bells {
+            bells.ring(stirred, self.own);
         }
     }
 
@@ -42,7 +77,10 @@ impl<R: Wait + Clock> TurnDesk<R> {
             return Err(number);
         }
         match self.lock.turn(&self.rt, &mut self.seat, act) {
-            Ok((_place, turn)) => Ok(turn.acted),
+            Ok((_place, turn)) => {
+                self.ring(&turn.stirred);
+                Ok(turn.acted)
+            }
             Err(Spent(number)) => {
                 self.spent_at = Some(number);
                 Err(number)
@@ -52,20 +90,23 @@ impl<R: Wait + Clock> TurnDesk<R> {
 }
 
 impl<R: Wait + Clock + Drop> TurnDesk<R> {
-    /// A desk over a new lock round the network, with as many shares as there may be desks. Without memory the network is
-    /// dropped.
+    /// A desk over a new lock round the network, with as many shares as there may be desks, and with a new board of bells. Without
+    /// memory the network is dropped.
     pub fn open(rt: R, alloc: Global, plant: Plant, seats: u32) -> Result<Self, NoMemory>
         requires seats { 0 < seats }
         requires begun { NoneIsPending (whole plant).state }
         ensures stand { IfOk result (λ desk. stand_of desk ≡ opened_by plant) }
         ensures shares { IfOk result (λ desk. shares_at desk ≡ seats) }
     {
+        let bells = Arc::new(alloc, Bells::new(alloc)?)?;
         let (lock, seat) = Turnstile::open(alloc, plant, seats)?;
         let lock = Arc::new(alloc, lock)?;
-        Ok(TurnDesk::new(rt, lock, seat))
+        let mut desk = TurnDesk::new(rt, lock, seat);
+        desk.bells = Some(bells);
+        Ok(desk)
     }
 
-    /// A further desk over the same lock, which has seen as much and has made no turn. It has one share, which this desk gives
+    /// A further desk over the same lock and the same board, which has seen as much and has made no turn. It has one share, which this desk gives
     /// away. `NoSeat` comes only where this desk has one share alone, and then no desk is made.
     pub fn split(&mut self, rt: R) -> Result<Self, SplitError>
         ensures stand { stand_of self.new ≡ stand_of self.old }
@@ -77,7 +118,12 @@ impl<R: Wait + Clock + Drop> TurnDesk<R> {
         let Ok(lock) = Arc::try_clone(&self.lock) else {
             return Err(SplitError::NoMemory);
         };
+        let Ok(bells) = shared(&self.bells) else {
+            return Err(SplitError::NoMemory);
+        };
         let seat = self.lock.split(&mut self.seat)?;
-        Ok(TurnDesk::new(rt, lock, seat))
+        let mut desk = TurnDesk::new(rt, lock, seat);
+        desk.bells = bells;
+        Ok(desk)
     }
 }

@@ -4,7 +4,7 @@ ghost use Rattle.std.specs.Vec.{vec_capacity};
 
 use dom_base::Bytes;
 use server_loops::model::{Event, Outcome, Refused};
-use server_loops::{Desk, DeskRefused};
+use server_loops::{Desk, DeskRefused, Guide};
 use std::alloc::Global;
 use std::mem::replace;
 use std::snapshot::Snapshot;
@@ -165,4 +165,13 @@ impl Desk for Clerk {
     fn spent(&self) -> Option<u64> {
         self.spent_at
     }
+}
+
+// One way after the other.
+impl Guide for Clerk {
+    fn next_way(&self, _count: usize, last: usize) -> usize {
+        last.wrapping_add(1)
+    }
+
+    fn found(&self, _place: usize) {}
 }

@@ -16,9 +16,13 @@ mod keys;
 #[cfg(test)]
 mod lines;
 #[cfg(test)]
+mod operator_lines;
+#[cfg(test)]
 mod script;
 #[cfg(test)]
 mod sessions;
+#[cfg(test)]
+mod stirs;
 #[cfg(test)]
 mod turns;
 #[cfg(test)]

@@ -3,7 +3,7 @@ use crate::clerk::{Clerk, GREETING};
 use crate::lines::numbers;
 use dom_base::{As, Bytes, List, Tick, read_number, write_number};
 use dom_edge::{MemoryClock, MemoryLink, MemoryListener, MemorySink, MemoryStream};
-use server_loops::{Ended, Ran, carry_links, serve_port, serve_session, tick_on};
+use server_loops::{Ended, Ran, carry_guided, carry_links, serve_port, serve_session, tick_on};
 use std::alloc::Global;
 use std::test::Fail;
 
@@ -173,8 +173,14 @@ fn host(alloc: Global, desk: &mut Clerk, listener: &mut MemoryListener) -> Ran {
     serve_port(alloc, desk, PEER, listener, 3)
 }
 
+const WAYS: [(As, As); 2] = [(As(1), As(2)), (As(2), As(1))];
+
 fn carry(desk: &mut Clerk) -> Ran {
-    carry_links(desk, &[(As(1), As(2)), (As(2), As(1))], 2)
+    carry_links(desk, &WAYS, 2)
+}
+
+fn carry_next(desk: &mut Clerk) -> Ran {
+    carry_guided(desk, &WAYS, 3)
 }
 
 fn tick(desk: &mut Clerk, clock: &mut MemoryClock) {
@@ -187,11 +193,12 @@ fn other_calls(alloc: Global) -> Option<Vec<u8>> {
     let mut clock = clock(alloc)?;
     let mut desk = Clerk::new(alloc);
     let ends = (host(alloc, &mut desk, &mut listener), carry(&mut desk));
+    let last = carry_next(&mut desk);
     tick(&mut desk, &mut clock);
     let mut text = Vec::new(alloc);
     desk.tell(&mut text)?;
-    match ends {
-        (Ran::Turns, Ran::Turns) => Some(text),
+    match (ends, last) {
+        ((Ran::Turns, Ran::Turns), Ran::Turns) => Some(text),
         _ => None,
     }
 }
@@ -199,6 +206,6 @@ fn other_calls(alloc: Global) -> Option<Vec<u8>> {
 #[test]
 fn each_other_call_is_made(rt: HostRuntime) -> Result<(), Fail> {
     let told = other_calls(rt.alloc()).ok_or("an end")?;
-    assert_eq!(rt; told.as_slice(), b"odscccckk".as_slice());
+    assert_eq!(rt; told.as_slice(), b"odsccccccckk".as_slice());
     Ok(())
 }

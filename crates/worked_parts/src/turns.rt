@@ -7,21 +7,21 @@ use plant_lock::SplitError;
 use plant_network::Plant;
 use plant_network::model::{Event, Outcome};
 use plant_text::read_network;
-use server_loops::{Bench, Desk, Gate, Worked, work};
+use server_loops::{Bench, Desk, Gate, Guide, Worked, work};
 use std::alloc::Global;
 use std::process::Abort;
 use std::sync::Wait;
 use std::test::Fail;
-use std::thread::join;
-use std::time::Clock;
+use std::thread::{join, sleep};
+use std::time::{Clock, Duration};
 use te_links::Topology;
 use te_text::read_topology;
-use turn_desk::TurnDesk;
+use turn_desk::{TurnDesk, WorkBench};
 
 const AT: As = As(1);
 
-// How often a gate looks before it gives up.
-const LOOKS: u32 = 1_000_000;
+// How often a gate looks, once a millisecond, before it gives up.
+const LOOKS: u32 = 20_000;
 
 const SETTINGS: &[u8] = b"[[element]]
 as = 1
@@ -120,11 +120,12 @@ struct Door<R: Abort + Wait + Clock> {
 }
 
 // Whether there is one ready job in time, and no more.
-fn opens<R: Wait + Clock>(desk: &mut TurnDesk<R>) -> bool {
+fn opens<R: Wait + Clock>(rt: &R, desk: &mut TurnDesk<R>) -> bool {
     for _look in 0..LOOKS {
         if desk.ready(1).is_none() {
             return true;
         }
+        sleep(rt, Duration::from_millis(1));
     }
     false
 }
@@ -133,7 +134,7 @@ impl<R: Abort + Wait + Clock> Gate for Door<R> {
     ghost passed = { λ d. d.passed.items };
 
     fn before(&mut self, at: As, number: u64) {
-        if number == 1 && !self.is_open && !opens(&mut self.desk) {
+        if number == 1 && !self.is_open && !opens(&self.rt, &mut self.desk) {
             self.gave_up = true;
         }
         let Ok(()) = self.passed.push((at, number)) else {
@@ -238,5 +239,66 @@ fn two_workers_at_one_lock_solve_beside_each_other(rt: HostRuntime) -> Result<()
     second.ok_or("the second worker")?;
     assert_eq!(rt; desk.ready(0), None);
     assert!(rt; hears(&mut desk, ANSWERS));
+    Ok(())
+}
+
+// A bench for a worker, over a desk that has made no turn.
+fn bench<R: Wait + Clock + Drop>(
+    rt: R,
+    desk: &mut TurnDesk<R>,
+    index: u32,
+) -> Option<WorkBench<R>> {
+    let Ok(desk) = desk.split(rt) else {
+        return None;
+    };
+    Some(WorkBench::new(desk, index))
+}
+
+// The jobs of two requests are ready. Each of two workers is told another one, and the third none until the first lets its own go.
+#[test]
+fn a_job_that_a_worker_is_at_is_no_other_s(rt: HostRuntime) -> Result<(), Fail> {
+    let alloc = rt.alloc();
+    let mut desk = open(rt, alloc, SETTINGS, 4).ok_or("a desk")?;
+    let mut first = bench(rt, &mut desk, 0).ok_or("a bench")?;
+    let mut second = bench(rt, &mut desk, 1).ok_or("another")?;
+    let mut third = bench(rt, &mut desk, 2).ok_or("a third")?;
+    ask(alloc, &mut desk).ok_or("two requests")?;
+    assert_eq!(rt;
+        (first.ready(0), second.ready(1)),
+        (Some((AT, 1)), Some((AT, 2)))
+    );
+    assert_eq!(rt; third.ready(0), None);
+    assert!(rt; matches!(first.look(AT, 1), Ok(Some(_))));
+    assert_eq!(rt; third.ready(0), None);
+    first.let_go();
+    assert_eq!(rt; third.ready(2), Some((AT, 1)));
+    assert!(rt; matches!(second.look(AT, 3), Ok(None)));
+    assert_eq!(rt; first.ready(0), Some((AT, 2)));
+    Ok(())
+}
+
+const LINKED: &[u8] = b"[[element]]
+as = 1
+id = \"192.0.2.1\"
+[[element]]
+as = 2
+id = \"192.0.2.2\"
+[[link]]
+a = 1
+b = 2
+";
+
+// A whole round is first, from the last way on. Element 1 opens the session, and element 2 says a Keepalive: then its way is told,
+// and once more for what may stand behind the Open that the round found.
+#[test]
+fn the_carrier_is_told_where_messages_wait(rt: HostRuntime) -> Result<(), Fail> {
+    let alloc = rt.alloc();
+    let ways = [(As(1), As(2)), (As(2), As(1))];
+    let mut desk = open(rt, alloc, LINKED, 1).ok_or("a desk")?;
+    desk.tell_ways(alloc, &ways).ok().ok_or("ways")?;
+    assert_eq!(rt; (desk.next_way(2, 1), desk.next_way(2, 1)), (1, 0));
+    assert!(rt; matches!(desk.act(Event::Carry(As(1), As(2))), Ok(Outcome::Done)));
+    desk.found(0);
+    assert_eq!(rt; (desk.next_way(2, 0), desk.next_way(2, 1)), (1, 0));
     Ok(())
 }

@@ -8,7 +8,7 @@ use std::test::Fail;
 use std::thread::Threads;
 use std::time::Clock;
 
-// Two domains and their parent, two peers and watchers.
+// Two domains and their parent, watchers, and a peer that connects beside one that is dialled, at the port of watchers there.
 const SETTINGS: &[u8] = b"\
 watch = 4200
 workers = 2
@@ -36,18 +36,20 @@ name = \"c1\"
 as = 1
 class = \"client\"
 port = 4189
+from = \"192.0.2.21\"
 
 [[peer]]
 name = \"c2\"
 as = 2
 class = \"client\"
-port = 4190
+port = 4200
+connect = \"192.0.2.22\"
 ";
 
 // What is started, and what is said meanwhile.
 const STARTED: &[u8] = b"\
 port 0 4189
-port 1 4190
+port 1 4200
 carry 2 1 1 2 0 1 1 0 0 2 2 0
 work 0
 work 1
@@ -56,13 +58,13 @@ watch 4200
 ";
 
 const TOLD: &[u8] = b"\
-pce: listens at port 4189 for c1
-pce: listens at port 4190 for c2
+pce: listens at 127.0.0.1 port 4189 for c1
+pce: dials 192.0.2.22 at port 4200 for c2
 pce: carries messages over 3 inner links
 pce: solves as worker 0
 pce: solves as worker 1
 pce: reads an operator's lines
-pce: listens at port 4200 for watchers
+pce: listens at 127.0.0.1 port 4200 for watchers
 pce: ready
 ";
 
@@ -94,7 +96,9 @@ fn put_ways(ways: &[(As, As)], into: &mut Vec<u8>) -> Result<(), Fail> {
 
 fn put_duty(duty: &Duty, into: &mut Vec<u8>) -> Result<(), Fail> {
     match duty {
-        Duty::Port(peer, port) => put_words(b"port", &[u64::from(*peer), u64::from(*port)], into),
+        Duty::Port(peer, port, _) => {
+            put_words(b"port", &[u64::from(*peer), u64::from(*port)], into)
+        }
         Duty::Carry(ways) => put_ways(ways.as_slice(), into),
         Duty::Work(index) => put_words(b"work", &[u64::from(*index)], into),
         Duty::Operate => put_words(b"operate", &[], into),
@@ -162,6 +166,7 @@ where
         MemorySource::new(List::new(alloc), List::new(alloc)),
         MemorySink::new(alloc, List::new(alloc)),
         &mut log,
+        "127.0.0.1",
         3,
     );
     let mut end = Vec::new(alloc);
@@ -201,7 +206,7 @@ fn all_tasks_are_started_in_order(rt: HostRuntime) -> Result<(), Fail> {
 // A row: the call of `listen` that fails, that of `start`, the end, and how many tasks were started by then.
 const FAULTS: [(u64, u64, &[u8], usize); 6] = [
     (0, 9, b"no port 4189\n", 0),
-    (1, 9, b"no port 4190\n", 0),
+    (1, 9, b"no port 4200\n", 0),
     (2, 9, b"no port 4200\n", 6),
     (9, 0, b"no thread\n", 0),
     (9, 4, b"no thread\n", 4),

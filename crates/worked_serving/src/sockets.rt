@@ -1,4 +1,4 @@
-//! A network that is served over the sockets of the machine: its client is answered.
+//! A network that is served over the sockets of the machine: its clients are answered, each at once.
 use dom_base::{Bytes, List, Text};
 use dom_edge::{MemorySink, MemorySource, MemoryStore, SocketPorts, WallClock};
 use network_serving::{Served, Spawner, ThreadSpawner, serve};
@@ -32,54 +32,72 @@ const REQUEST: &[u8] =
 const ANSWER: [u8; 72] =
     *b"\x20\x01\x00\x0C\x01\x10\x00\x08\x20\x1E\x78\x00\x20\x02\x00\x04\x20\x04\x00\x38\x02\x12\x00\x0C\x00\x00\x00\x00\x00\x00\x00\x01\x07\x10\x00\x1C\x01\x08\x0A\x00\x00\x01\x20\x00\x01\x08\x0A\x01\x00\x02\x20\x00\x01\x08\x0A\x01\x00\x04\x20\x00\x06\x10\x00\x0C\x00\x00\x00\x02\x41\x70\x00\x00";
 
-// A port that nobody listens at any more.
-fn free_port(rt: HostRuntime) -> Result<u16, Fail> {
-    let held = TcpListener::bind(&rt, (Ipv4Addr::LOCALHOST, 0))?;
-    Ok(held.local_addr()?.port())
+// Two ports that nobody listens at any more.
+fn free_ports(rt: HostRuntime) -> Result<[u16; 2], Fail> {
+    let one = TcpListener::bind(&rt, (Ipv4Addr::LOCALHOST, 0))?;
+    let other = TcpListener::bind(&rt, (Ipv4Addr::LOCALHOST, 0))?;
+    Ok([one.local_addr()?.port(), other.local_addr()?.port()])
 }
 
-// One domain, with a client at that port.
-fn settings(alloc: Global, port: u16) -> Result<Bytes, Fail> {
-    let front =
-        "[[element]]\nas = 1\nid = \"192.0.2.1\"\ntopology = \"one.txt\"\n[[peer]]\nname = \"c1\"\nas = 1\nclass = \"client\"\nport = ";
-    let text = format!(in alloc; "{front}{port}\n")?;
+// One domain, with a client at each of these ports.
+fn settings(alloc: Global, ports: [u16; 2]) -> Result<Bytes, Fail> {
+    let element = "[[element]]\nas = 1\nid = \"192.0.2.1\"\ntopology = \"one.txt\"\n";
+    let (one, other) = (ports[0], ports[1]);
+    let text = format!(in alloc;
+        "{element}[[peer]]\nname = \"c1\"\nas = 1\nclass = \"client\"\nport = {one}\n[[peer]]\nname = \"c2\"\nas = 1\nclass = \"client\"\nport = {other}\n"
+    )?;
     Ok(List::from_vec(text.as_bytes().to_vec(alloc)?))
 }
 
-fn store(alloc: Global, port: u16) -> Result<MemoryStore, Fail> {
+fn store(alloc: Global, ports: [u16; 2]) -> Result<MemoryStore, Fail> {
     let topology = List::from_vec(TOPOLOGY.to_vec(alloc)?);
     let files = vec![in alloc;
-        (Text::copy_of(alloc, "net.toml")?, settings(alloc, port)?),
+        (Text::copy_of(alloc, "net.toml")?, settings(alloc, ports)?),
         (Text::copy_of(alloc, "one.txt")?, topology),
     ]?;
     Ok(MemoryStore::new(alloc, List::from_vec(files), List::new(alloc)))
 }
 
-// What a client at that port reads, which comes once somebody listens.
-fn ask(rt: HostRuntime, port: u16) -> [u8; 72] {
-    let mut answer = [0u8; 72];
+// A client at that port, which comes once somebody listens and opens its session. It waits half as long for an answer as a session
+// waits that nobody wakes.
+fn connect(rt: HostRuntime, port: u16) -> Option<TcpStream> {
     for _try in 0..100u32 {
         thread::sleep(&rt, Duration::from_millis(20));
         let Ok(mut client) = TcpStream::connect(&rt, (Ipv4Addr::LOCALHOST, port)) else {
             continue;
         };
-        let _bounded = client.set_read_timeout(Some(Duration::from_secs(10)));
+        let _bounded = client.set_read_timeout(Some(Duration::from_secs(5)));
         for piece in OPEN {
             let _sent = client.write_all(piece);
             thread::sleep(&rt, Duration::from_millis(20));
         }
-        let _sent = client.write_all(REQUEST);
-        let _read = client.read_exact(&mut answer);
-        return answer;
+        return Some(client);
     }
+    None
+}
+
+// Asks, and reads what comes.
+fn ask(client: &mut TcpStream) -> [u8; 72] {
+    let mut answer = [0u8; 72];
+    let _greeted = client.read_exact(&mut answer[..16]);
+    let _sent = client.write_all(REQUEST);
+    let _read = client.read_exact(&mut answer[16..]);
     answer
 }
 
+// What two clients read that are there at once, and ask one after the other.
+fn ask_both(rt: HostRuntime, ports: [u16; 2]) -> Option<[[u8; 72]; 2]> {
+    let mut one = connect(rt, ports[0])?;
+    let mut other = connect(rt, ports[1])?;
+    thread::sleep(&rt, Duration::from_millis(200));
+    Some([ask(&mut one), ask(&mut other)])
+}
+
 #[test]
-fn a_client_is_answered(rt: HostRuntime) -> Result<(), Fail> {
+fn each_client_is_answered(rt: HostRuntime) -> Result<(), Fail> {
     let alloc = rt.alloc();
-    let port = free_port(rt)?;
-    let Ok(client) = thread::spawn(&rt, move || ask(rt, port)) else {
+    let ports = free_ports(rt)?;
+    let Ok(clients) = thread::spawn(&rt, move || ask_both(rt, ports)) else {
         return Err(Fail::from("no thread"));
     };
     let mut spawner: Spawner<HostRuntime> = Spawner::Threads(ThreadSpawner::new(rt, alloc));
@@ -87,17 +105,18 @@ fn a_client_is_answered(rt: HostRuntime) -> Result<(), Fail> {
         rt,
         alloc,
         "net.toml",
-        &mut store(alloc, port)?,
-        &mut SocketPorts::new(rt, IpAddr::V4(Ipv4Addr::LOCALHOST)),
+        &mut store(alloc, ports)?,
+        &mut SocketPorts::new(rt, alloc, IpAddr::V4(Ipv4Addr::LOCALHOST)),
         &mut spawner,
         &mut WallClock::new(rt),
-        store(alloc, port)?,
+        store(alloc, ports)?,
         MemorySource::new(List::new(alloc), List::new(alloc)),
         MemorySink::new(alloc, List::new(alloc)),
         &mut MemorySink::new(alloc, List::new(alloc)),
+        "127.0.0.1",
         100,
     );
     assert!(rt; matches!(served, Served::Turns));
-    assert_eq!(rt; client.join(&rt).as_slice(), ANSWER.as_slice());
+    assert_eq!(rt; clients.join(&rt), Some([ANSWER, ANSWER]));
     Ok(())
 }

@@ -6,8 +6,14 @@
 #[cfg(test)]
 mod asks;
 #[cfg(test)]
+mod files;
+#[cfg(test)]
 mod machine;
 #[cfg(test)]
 mod memory;
+#[cfg(test)]
+mod moments;
+#[cfg(test)]
+mod sockets;
 #[cfg(test)]
 mod texts;

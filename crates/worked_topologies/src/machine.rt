@@ -95,7 +95,7 @@ fn talk<W: Wire>(link: &mut W, mut client: TcpStream) -> ([u8; 3], Put, [u8; 4])
 
 #[test]
 fn sockets_carry_bytes_both_ways(rt: HostRuntime) -> Result<(), Fail> {
-    let mut ports = SocketPorts::new(rt, IpAddr::V4(Ipv4Addr::LOCALHOST));
+    let mut ports = SocketPorts::new(rt, rt.alloc(), IpAddr::V4(Ipv4Addr::LOCALHOST));
     let port = free_port(rt, &mut ports)?;
     let Opened::Port(listener) = listen(&mut ports, port) else {
         return Err(Fail::from("the port is free"));

@@ -3,9 +3,8 @@ use Rattle.std.proofs.Common.{◌≡◌, ℕ, ◌≤◌, ◌==◌, ◌||◌, Boo
 use Rattle.std.specs.List.{AllByRecursion, list_any}
 use Rattle.std.proofs.lemmas.List.Elements.{recursion_from_All}
 use Rattle.line_text.specs.Hexadecimal.{hex_bytes, hex_pair, is_blank, with_byte}
-use Rattle.plant_text.specs.declared.line.LineEvent.TheVariants.{Feed}
-use Rattle.plant_laws.specs.plant_model.Types.{NetworkParts}
-use Rattle.plant_text.specs.Lines.{hex_in, line_in}
+use Rattle.plant_laws.specs.plant_model.Types.{LineEvent, NetworkParts}
+use Rattle.plant_text.specs.Lines.{hex_in, line_in, octets_of}
 use Rattle.run_laws.proofs.TextLemmas.FedWords.{AllMean, line_fed}
 use Rattle.run_laws.proofs.TextLemmas.Lengths.{words_within}
 
@@ -50,8 +49,8 @@ words_short : (most : ℕ) (words : List (List ℕ)) → AllByRecursion (λ (wor
 words_short most [] within = tt
 words_short most (word ∷ words) within = (λ bytes is. let one = fed_short word bytes is in let here = within.0 in omega (arith, one, here), words_short most words within.1)
 
-pub feeds_short : (n : NetworkParts) (line : List ℕ) (peer : Option ℕ) (bytes : List ℕ) → line_in n line ≡ Some (Some (Feed peer bytes)) → length bytes ≤ length line
-feeds_short n line peer bytes is =
-    line_fed (IsShort (length line)) n line
+pub feeds_short : (n : NetworkParts) (line : List ℕ) (e : LineEvent) → line_in n line ≡ Some (Some e) → length (octets_of e) ≤ length line
+feeds_short n line e is =
+    line_fed (IsShort (length line)) (omega arith) n line
     (λ words said. words_short (length line) words (recursion_from_All (λ (word : List ℕ). length word ≤ length line) words (words_within line words said)))
-    (Feed peer bytes) is
+    e is

@@ -2,7 +2,7 @@
 use Rattle.std.proofs.Common.{◌≡◌, ℕ, ◌+◌, ◌*◌, ◌<◌, ◌==◌, ◌||◌, Bool, true, false, cond, List, [], ◌∷◌, length, Option, Some, None, refl, subst, arith}
 use Rattle.std.specs.List.{AllByRecursion, list_any}
 use Rattle.std.proofs.lemmas.Bool.Decides.{nat_tests}
-use Rattle.std.proofs.lemmas.List.Elements.{All-from_recursion}
+use Rattle.std.proofs.lemmas.List.Elements.{All-from_recursion, All-nil}
 use Rattle.line_text.specs.Hexadecimal.{hex_bytes, hex_digit, hex_pair, is_blank, with_byte}
 use Rattle.plant_laws.specs.plant_model.Types.{LineEvent, NetworkParts}
 use Rattle.plant_text.specs.Lines.{blind_line_in, hex_in, line_in}
@@ -61,12 +61,15 @@ fed_octets word bytes is = go ((length word == 0) || list_any is_blank word) is
 abbrev pub FeedsOctets : LineEvent → Type 0
 FeedsOctets e = Feeds AreOctets e
 
+no_octets : AreOctets []
+no_octets = All-nil (λ b. b < 256)
+
 words_octets : (words : List (List ℕ)) → AllMean AreOctets words
 words_octets [] = tt
 words_octets (word ∷ words) = (λ bytes is. fed_octets word bytes is, words_octets words)
 
 pub line_octets : (n : NetworkParts) (line : List ℕ) (e : LineEvent) → line_in n line ≡ Some (Some e) → FeedsOctets e
-line_octets n line e is = line_fed AreOctets n line (λ words said. words_octets words) e is
+line_octets n line e is = line_fed AreOctets no_octets n line (λ words said. words_octets words) e is
 
 pub blind_line_octets : (n : NetworkParts) (line : List ℕ) (e : LineEvent) → blind_line_in n line ≡ Some (Some e) → FeedsOctets e
-blind_line_octets n line e is = blind_line_fed AreOctets n line (λ words said. words_octets words) e is
+blind_line_octets n line e is = blind_line_fed AreOctets no_octets n line (λ words said. words_octets words) e is

@@ -1,5 +1,5 @@
 -- What a line feeds is what one of its words means in hexadecimal.
-use Rattle.std.proofs.Common.{◌≡◌, ℕ, Bool, true, false, cond, List, [], ◌∷◌, Option, Some, None, subst}
+use Rattle.std.proofs.Common.{◌≡◌, ℕ, Bool, true, false, cond, List, [], ◌∷◌, Option, Some, None, refl, sym, subst}
 use Rattle.std.specs.List.{AllByRecursion, find}
 use Rattle.std.specs.Str.{bytes_eq}
 use Rattle.plant_laws.specs.plant_model.Types.{As, LineEvent, NetworkParts, PeerRow}
@@ -7,13 +7,12 @@ use Rattle.dom_base.specs.Steps.{◌>>=◌}
 use Rattle.line_text.specs.Lines.{is_skipped}
 use Rattle.line_text.specs.Words.{words_of}
 use Rattle.plant_text.specs.declared.line.LineEvent.TheVariants as event
-use Rattle.plant_text.specs.Lines.{are_rows_at, as_in, behind, behind_blind, blind_event_in, blind_line_in, both, event_in, file_in, first, hex_in, last, line_in, number_32, number_64, on_in, only, peer_in, rows_in, solved_in, verb_word, verbs}
+use Rattle.plant_text.specs.Lines.{are_rows_at, as_in, behind, behind_blind, blind_event_in, blind_line_in, both, event_in, file_in, first, hex_in, last, line_in, number_32, number_64, octets_of, on_in, only, peer_in, rows_in, solved_in, verb_word, verbs}
 use Rattle.run_laws.proofs.TextLemmas.AddrRanges.{by_parts}
 
 -- what an event feeds is so
 abbrev pub Feeds : (List ℕ → Type 0) → LineEvent → Type 0
-Feeds Q (event.Feed peer bytes) = Q bytes
-Feeds Q _ = Unit {0}
+Feeds Q e = Q (octets_of e)
 
 -- what a word means in hexadecimal is so
 abbrev pub Means : (List ℕ → Type 0) → List ℕ → Type 0
@@ -92,42 +91,50 @@ pub named_then : {X : Type 0} (P : LineEvent → Type 0) (o : Option X) (make : 
 named_then P (Some x) make one e is = is_event P (make x) e is (one x)
 named_then P None make one e is = absurd (cc)
 
-feed_fed : (Q : List ℕ → Type 0) (peers : List PeerRow) (words : List (List ℕ)) (e : LineEvent) → AllMean Q words → (both (peer_in peers) hex_in words >>= λ p. Some (event.Feed p.0 p.1)) ≡ Some e → Feeds Q e
-feed_fed Q peers words e mean is =
-    let p = by_parts (both (peer_in peers) hex_in words) (λ p. Some (event.Feed p.0 p.1)) e is in
-    is_event (Feeds Q) (event.Feed p.0.0 p.0.1) e p.2 (both_fed Q peers words mean p.0 p.1)
+-- the octets of an event are what a word means
+fed_by_word : (Q : List ℕ → Type 0) (make : Option ℕ → List ℕ → LineEvent) → ((peer : Option ℕ) (bytes : List ℕ) → octets_of (make peer bytes) ≡ bytes) →
+    (peers : List PeerRow) (words : List (List ℕ)) (e : LineEvent) → AllMean Q words → (both (peer_in peers) hex_in words >>= λ p. Some (make p.0 p.1)) ≡ Some e → Feeds Q e
+fed_by_word Q make same peers words e mean is =
+    let p = by_parts (both (peer_in peers) hex_in words) (λ p. Some (make p.0 p.1)) e is in
+    is_event (Feeds Q) (make p.0.0 p.0.1) e p.2 (subst Q (sym (same p.0.0 p.0.1)) (both_fed Q peers words mean p.0 p.1))
 
-behind_fed : (Q : List ℕ → Type 0) (peers : List PeerRow) → AllByRecursion (ReadsFed Q (behind peers)) verbs
+behind_fed : (Q : List ℕ → Type 0) → Q [] → (peers : List PeerRow) → AllByRecursion (ReadsFed Q (behind peers)) verbs
 unfolding behind
-behind_fed Q peers = (
-  λ words e mean is. named_then (Feeds Q) (both as_in file_in words) (λ p. event.Load p.0 p.1) (λ p. tt) e is,
+behind_fed Q none peers = (
+  λ words e mean is. named_then (Feeds Q) (both as_in file_in words) (λ p. event.Load p.0 p.1) (λ p. none) e is,
   (
-    λ words e mean is. named_then (Feeds Q) (both as_in file_in words) (λ p. event.Change p.0 p.1) (λ p. tt) e is,
+    λ words e mean is. named_then (Feeds Q) (both as_in file_in words) (λ p. event.Change p.0 p.1) (λ p. none) e is,
     (
-      λ words e mean is. named_then (Feeds Q) (both (peer_in peers) number_32 words) (λ p. event.Open p.0 p.1) (λ p. tt) e is,
+      λ words e mean is. named_then (Feeds Q) (both (peer_in peers) number_32 words) (λ p. event.Open p.0 p.1) (λ p. none) e is,
       (
-        λ words e mean is. named_then (Feeds Q) (only (peer_in peers) words) event.Shut (λ p. tt) e is,
+        λ words e mean is. named_then (Feeds Q) (only (peer_in peers) words) event.Shut (λ p. none) e is,
         (
-          λ words e mean is. feed_fed Q peers words e mean is,
+          λ words e mean is. fed_by_word Q event.Feed (λ peer bytes. refl) peers words e mean is,
           (
-            λ words e mean is. named_then (Feeds Q) (both as_in as_in words) (λ p. event.Carry p.0 p.1) (λ p. tt) e is,
+            λ words e mean is. fed_by_word Q event.Receive (λ peer bytes. refl) peers words e mean is,
             (
-              λ words e mean is. named_then (Feeds Q) (both as_in as_in words) (λ p. event.Break p.0 p.1) (λ p. tt) e is,
+              λ words e mean is. named_then (Feeds Q) (only (peer_in peers) words) event.Take (λ p. none) e is,
               (
-                λ words e mean is. named_then (Feeds Q) (both as_in number_64 words) (λ p. event.Solve p.0 p.1 []) (λ p. tt) e is,
+                λ words e mean is. named_then (Feeds Q) (both as_in as_in words) (λ p. event.Carry p.0 p.1) (λ p. none) e is,
                 (
-                  λ words e mean is. named_then (Feeds Q) (only number_64 words) (λ n. event.Tick (record { 0 = n })) (λ p. tt) e is,
+                  λ words e mean is. named_then (Feeds Q) (both as_in as_in words) (λ p. event.Break p.0 p.1) (λ p. none) e is,
                   (
-                    λ words e mean is. named_then (Feeds Q) (both (peer_in peers) number_32 words) (λ p. event.Drain p.0 p.1) (λ p. tt) e is,
+                    λ words e mean is. named_then (Feeds Q) (both as_in number_64 words) (λ p. event.Solve p.0 p.1 []) (λ p. none) e is,
                     (
-                      λ words e mean is. last_event (Feeds Q) event.Settle e words is tt,
+                      λ words e mean is. named_then (Feeds Q) (only number_64 words) (λ n. event.Tick (record { 0 = n })) (λ p. none) e is,
                       (
-                        λ words e mean is. last_event (Feeds Q) event.Finish e words is tt,
+                        λ words e mean is. named_then (Feeds Q) (both (peer_in peers) number_32 words) (λ p. event.Drain p.0 p.1) (λ p. none) e is,
                         (
-                          λ words e mean is. named_then (Feeds Q) (only on_in words) (λ on. event.CertifyOn) (λ p. tt) e is,
+                          λ words e mean is. last_event (Feeds Q) event.Settle e words is none,
                           (
-                            λ words e mean is. named_then (Feeds Q) (only on_in words) (λ on. event.DiscloseOn) (λ p. tt) e is,
-                            tt,
+                            λ words e mean is. last_event (Feeds Q) event.Finish e words is none,
+                            (
+                              λ words e mean is. named_then (Feeds Q) (only on_in words) (λ on. event.CertifyOn) (λ p. none) e is,
+                              (
+                                λ words e mean is. named_then (Feeds Q) (only on_in words) (λ on. event.DiscloseOn) (λ p. none) e is,
+                                tt,
+                              ),
+                            ),
                           ),
                         ),
                       ),
@@ -152,33 +159,33 @@ said false o e is =
     subst (λ (y : Option LineEvent). o ≡ y) one x.1
 
 -- what each word of a line means, its feed is
-pub line_fed : (Q : List ℕ → Type 0) (n : NetworkParts) (line : List ℕ) → ((words : List (List ℕ)) → words_of line ≡ Some words → AllMean Q words) →
+pub line_fed : (Q : List ℕ → Type 0) → Q [] → (n : NetworkParts) (line : List ℕ) → ((words : List (List ℕ)) → words_of line ≡ Some words → AllMean Q words) →
     (e : LineEvent) → line_in n line ≡ Some (Some e) → Feeds Q e
-line_fed Q n line all e is =
+line_fed Q none n line all e is =
     let words = by_parts (words_of line) (event_in n.peers) e (said (is_skipped line) (words_of line >>= event_in n.peers) e is) in
-    by_verb (AllMean Q) (Feeds Q) (λ word rest mean. mean.1) verbs verb_word (behind n.peers) (behind_fed Q n.peers) words.0 e (all words.0 words.1) words.2
+    by_verb (AllMean Q) (Feeds Q) (λ word rest mean. mean.1) verbs verb_word (behind n.peers) (behind_fed Q none n.peers) words.0 e (all words.0 words.1) words.2
 
 -- ---- lines of a network without topologies
 
-solved_fed : (Q : List ℕ → Type 0) (words : List (List ℕ)) (e : LineEvent) → solved_in words ≡ Some e → Feeds Q e
+solved_fed : (Q : List ℕ → Type 0) → Q [] → (words : List (List ℕ)) (e : LineEvent) → solved_in words ≡ Some e → Feeds Q e
 unfolding solved_in
-solved_fed Q words e is =
+solved_fed Q none words e is =
     let at = by_parts (first as_in words) _ e is in
     let number = by_parts (first number_64 at.0.1) _ e at.2 in
     let table = by_parts (rows_in number.0.1) _ e number.2 in
     go at.0.0 number.0.0 table.0 (are_rows_at at.0.0 table.0) table.2
   where
     go : (at : As) (k : ℕ) (table : List _) (b : Bool) → cond b (Some (event.Solve at k table)) None ≡ Some e → Feeds Q e
-    go at k table true h = is_event (Feeds Q) (event.Solve at k table) e h tt
+    go at k table true h = is_event (Feeds Q) (event.Solve at k table) e h none
     go at k table false h = absurd (cc)
 
 pub no_event : (P : LineEvent → Type 0) (e : LineEvent) → None ≡ Some e → P e
 no_event P e is = absurd (cc)
 
-blind_fed : (Q : List ℕ → Type 0) (peers : List PeerRow) → AllByRecursion (ReadsFed Q (behind_blind peers)) verbs
+blind_fed : (Q : List ℕ → Type 0) → Q [] → (peers : List PeerRow) → AllByRecursion (ReadsFed Q (behind_blind peers)) verbs
 unfolding behind_blind
-blind_fed Q peers =
-    let b = behind_fed Q peers in (
+blind_fed Q none peers =
+    let b = behind_fed Q none peers in (
       λ words e mean is. no_event (Feeds Q) e is,
       (
         λ words e mean is. no_event (Feeds Q) e is,
@@ -193,20 +200,26 @@ blind_fed Q peers =
                 (
                   λ words e mean is. b.1.1.1.1.1.1.0 words e mean is,
                   (
-                    λ words e mean is. solved_fed Q words e is,
+                    λ words e mean is. b.1.1.1.1.1.1.1.0 words e mean is,
                     (
                       λ words e mean is. b.1.1.1.1.1.1.1.1.0 words e mean is,
                       (
-                        λ words e mean is. b.1.1.1.1.1.1.1.1.1.0 words e mean is,
+                        λ words e mean is. solved_fed Q none words e is,
                         (
                           λ words e mean is. b.1.1.1.1.1.1.1.1.1.1.0 words e mean is,
                           (
-                            λ words e mean is. no_event (Feeds Q) e is,
+                            λ words e mean is. b.1.1.1.1.1.1.1.1.1.1.1.0 words e mean is,
                             (
-                              λ words e mean is. no_event (Feeds Q) e is,
+                              λ words e mean is. b.1.1.1.1.1.1.1.1.1.1.1.1.0 words e mean is,
                               (
                                 λ words e mean is. no_event (Feeds Q) e is,
-                                tt,
+                                (
+                                  λ words e mean is. no_event (Feeds Q) e is,
+                                  (
+                                    λ words e mean is. no_event (Feeds Q) e is,
+                                    tt,
+                                  ),
+                                ),
                               ),
                             ),
                           ),
@@ -222,8 +235,8 @@ blind_fed Q peers =
       ),
     )
 
-pub blind_line_fed : (Q : List ℕ → Type 0) (n : NetworkParts) (line : List ℕ) → ((words : List (List ℕ)) → words_of line ≡ Some words → AllMean Q words) →
+pub blind_line_fed : (Q : List ℕ → Type 0) → Q [] → (n : NetworkParts) (line : List ℕ) → ((words : List (List ℕ)) → words_of line ≡ Some words → AllMean Q words) →
     (e : LineEvent) → blind_line_in n line ≡ Some (Some e) → Feeds Q e
-blind_line_fed Q n line all e is =
+blind_line_fed Q none n line all e is =
     let words = by_parts (words_of line) (blind_event_in n.peers) e (said (is_skipped line) (words_of line >>= blind_event_in n.peers) e is) in
-    by_verb (AllMean Q) (Feeds Q) (λ word rest mean. mean.1) verbs verb_word (behind_blind n.peers) (blind_fed Q n.peers) words.0 e (all words.0 words.1) words.2
+    by_verb (AllMean Q) (Feeds Q) (λ word rest mean. mean.1) verbs verb_word (behind_blind n.peers) (blind_fed Q none n.peers) words.0 e (all words.0 words.1) words.2

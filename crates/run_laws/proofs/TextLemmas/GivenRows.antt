@@ -173,24 +173,30 @@ each_given peers = (
         (
           λ words e any is. named_then IsBlindLine (both (peer_in peers) hex_in words) (λ p. event.Feed p.0 p.1) (λ p. tt) e is,
           (
-            λ words e any is. named_then IsBlindLine (both as_in as_in words) (λ p. event.Carry p.0 p.1) (λ p. tt) e is,
+            λ words e any is. named_then IsBlindLine (both (peer_in peers) hex_in words) (λ p. event.Receive p.0 p.1) (λ p. tt) e is,
             (
-              λ words e any is. named_then IsBlindLine (both as_in as_in words) (λ p. event.Break p.0 p.1) (λ p. tt) e is,
+              λ words e any is. named_then IsBlindLine (only (peer_in peers) words) event.Take (λ p. tt) e is,
               (
-                λ words e any is. solved_given words e is,
+                λ words e any is. named_then IsBlindLine (both as_in as_in words) (λ p. event.Carry p.0 p.1) (λ p. tt) e is,
                 (
-                  λ words e any is. named_then IsBlindLine (only number_64 words) (λ n. event.Tick (record { 0 = n })) (λ p. tt) e is,
+                  λ words e any is. named_then IsBlindLine (both as_in as_in words) (λ p. event.Break p.0 p.1) (λ p. tt) e is,
                   (
-                    λ words e any is. named_then IsBlindLine (both (peer_in peers) number_32 words) (λ p. event.Drain p.0 p.1) (λ p. tt) e is,
+                    λ words e any is. solved_given words e is,
                     (
-                      λ words e any is. last_event IsBlindLine event.Settle e words is tt,
+                      λ words e any is. named_then IsBlindLine (only number_64 words) (λ n. event.Tick (record { 0 = n })) (λ p. tt) e is,
                       (
-                        λ words e any is. no_event IsBlindLine e is,
+                        λ words e any is. named_then IsBlindLine (both (peer_in peers) number_32 words) (λ p. event.Drain p.0 p.1) (λ p. tt) e is,
                         (
-                          λ words e any is. no_event IsBlindLine e is,
+                          λ words e any is. last_event IsBlindLine event.Settle e words is tt,
                           (
                             λ words e any is. no_event IsBlindLine e is,
-                            tt,
+                            (
+                              λ words e any is. no_event IsBlindLine e is,
+                              (
+                                λ words e any is. no_event IsBlindLine e is,
+                                tt,
+                              ),
+                            ),
                           ),
                         ),
                       ),

@@ -1,4 +1,4 @@
-use Rattle.std.proofs.Common.{rules, ◌≡◌, ◌∙◌, ℕ, get_or, ap, sym, arith, Some}
+use Rattle.std.proofs.Common.{rules, ◌≡◌, ℕ, get_or, refl, arith, Some}
 use Rattle.std.specs.Prelude.{slice_get}
 use Rattle.plant_text.specs.declared.settings.PeerRow.{PeerRow}
 use Rattle.network_serving.specs.Starting.{IsPlanEnd, called, peer_ports}
@@ -12,13 +12,13 @@ returns-in_err-listener-clause-err g c =
     let k = c.loop-peer.peer in
     let row : PeerRow = c.index-peers-peer.result in
     let is : row ≡ get_or rows k row = c.index-peers-peer.is in
-    let port : ℕ = (get_or rows k row).port in
+    let port : ℕ = row.port in
     let a = g.Q.Ports.calls c.args.ports.now in
     let b = g.Q.Ports.calls c.loop-peer.ports in
     let d = g.Q.Ports.faults c.args.ports.now in
     let e = g.Q.Ports.faults c.loop-peer.ports in
-    let new = c.listen.new.ports in
-    let there : slice_get (peer_ports rows) k ≡ Some port = port_at rows k row c.loop-peer-test.true is ∙ ap (λ (r : PeerRow). Some r.port) is in
+    let new = c.open_port.new.ports in
+    let there : slice_get (peer_ports rows) k ≡ Some port = port_at rows k row c.loop-peer-test.true is in
     let end : IsPlanEnd (peer_ports rows) (called (a, g.Q.Ports.calls new) (d, g.Q.Ports.faults new) (g.Q.Ports.failed_at new)) c.in_err-listener.field-0.0 =
     plan_end (peer_ports rows) k port a b (g.Q.Ports.calls new) d e (g.Q.Ports.faults new) (g.Q.Ports.failed_at new) c.in_err-listener.field-0.0 there c.loop-peer.invariant.calls c.in_err-listener.ensures.called
     c.loop-peer.invariant.later c.in_err-listener.ensures.err in
@@ -31,10 +31,10 @@ loop-peer-preserved g c =
     let row : PeerRow = c.index-peers-peer.result in
     let is : row ≡ get_or rows k row = c.index-peers-peer.is in
     let port : ℕ = g.Q.Port.Listener.opened_at c.in_ok-listener.listener in
-    let same : port ≡ row.port = c.in_ok-listener.ensures.ok ∙ ap (λ (r : PeerRow). r.port) (sym is) in
+    let same : port ≡ row.port = c.in_ok-listener.ensures.ok in
     record {
-      adds = port_added g.Q.Port.Listener.opened_at rows k row port c.args.tasks.now.items c.loop-peer.tasks.items c.push_task.new.tasks.items c.loop-peer-test.true is same c.loop-peer.invariant.adds
+      adds = port_added g.Q.Port.Listener.opened_at g.Q.Port.Listener.heeds g.Q.Port.Listener.dialled_to rows k row port row.comes c.args.tasks.now.items c.loop-peer.tasks.items c.push_task.new.tasks.items c.loop-peer-test.true is same refl c.loop-peer.invariant.adds
           c.in_ok-push_task.ensures.ok;
-      calls = rose_more k (g.Q.Ports.calls c.args.ports.now) (g.Q.Ports.calls c.loop-peer.ports) (g.Q.Ports.calls c.listen.new.ports) c.loop-peer.invariant.calls c.in_ok-listener.ensures.called;
+      calls = rose_more k (g.Q.Ports.calls c.args.ports.now) (g.Q.Ports.calls c.loop-peer.ports) (g.Q.Ports.calls c.open_port.new.ports) c.loop-peer.invariant.calls c.in_ok-listener.ensures.called;
       later = omega (arith, c.loop-peer.invariant.later, c.in_ok-listener.ensures.later);
     }

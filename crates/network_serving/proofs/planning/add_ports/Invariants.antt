@@ -6,7 +6,7 @@ use Rattle.network_serving.proofs.planning.add_ports.Given as goal
 
 abbrev pub invariant-loop-peer : goal.invariant-loop-peer
 invariant-loop-peer g l = record {
-  adds : Adds g.Q.Port.Listener.opened_at l.initial.tasks.items l.tasks.items (port_duties 0 (take l.peer l.peers));
+  adds : Adds g.Q.Port.Listener.opened_at g.Q.Port.Listener.heeds g.Q.Port.Listener.dialled_to l.initial.tasks.items l.tasks.items (port_duties 0 (take l.peer l.peers));
   calls : RoseBy l.peer (g.Q.Ports.calls l.initial.ports, g.Q.Ports.calls l.ports);
   later : g.Q.Ports.faults l.initial.ports ≤ g.Q.Ports.faults l.ports;
 }

@@ -11,7 +11,7 @@ use Rattle.network_serving.proofs.starting.start_all.Goals as goal
 
 pub start-requires-clause-new : goal.start-requires-clause-new
 start-requires-clause-new g c κs within =
-    new_taken c.loop-task.yielded (into_iter_items c.loop-task.task-iterator) (into_iter_items c.next.new.self) c.args.tasks.items c.in-Some.task c.loop-task.invariant.new c.loop-task.invariant.whole
+    new_taken g.K.Listener.heeds g.K.Listener.dialled_to c.loop-task.yielded (into_iter_items c.loop-task.task-iterator) (into_iter_items c.next.new.self) c.args.tasks.items c.in-Some.task c.loop-task.invariant.new c.loop-task.invariant.whole
     c.in-Some.ensures.steps.0
 
 pub returns-clause-ok : goal.returns-clause-ok

@@ -8,7 +8,7 @@ abbrev pub invariant-loop-task : goal.invariant-loop-task
 invariant-loop-task g l = record {
   whole : l.yielded ++ into_iter_items l.task-iterator ≡ l.fn.tasks.items;
   left : into_iter_len l.task-iterator ≡ length (into_iter_items l.task-iterator);
-  new : All IsNew l.fn.tasks.items;
+  new : All (IsNew g.K.Listener.heeds g.K.Listener.dialled_to) l.fn.tasks.items;
   started : started l.spawner ≡ started l.initial.spawner ++ map (duty_of g.K.Listener.opened_at) l.yielded;
   later : faults_of l.initial.spawner ≤ faults_of l.spawner;
 }

@@ -5,7 +5,7 @@ use Rattle.std.proofs.Math.Seq.{map-set_same}
 use Rattle.std.proofs.lemmas.List.{get_or-set_same, get_or-set_other, get_or_default, map-set}
 use Rattle.path_search.specs.declared.blocks.TheConstants.{NOTHING}
 use Rattle.path_search.specs.Blocks.{num_at, shown_cost}
-use Rattle.path_search.proofs.InBlocks.{lowered, kept, of_block, put_blocks}
+use Rattle.path_search.proofs.InBlocks.{lowered, kept, of_block, put_blocks, put_marked}
 use Rattle.path_search.proofs.blocks.set_cost.Goals as goal
 
 pub returns-then-number-least-clause-blocks : goal.returns-then-number-least-clause-blocks
@@ -59,16 +59,28 @@ returns-then-number-was-clause-costs c =
     let costs = c.args.costs.now in
     let place = c.args.place in
     sym (map-set_same shown_cost costs place c.number_of-number.result 0 (ap shown_cost c.if-number-was.true))
-    ∙ map-set shown_cost costs place c.number_of-number.result ∙ ap (λ o. slice_set (map shown_cost costs) place o) c.number_of-number.ensures
+    ∙ map-set shown_cost costs place c.number_of-number.result ∙ ap (λ o. slice_set (map shown_cost costs) place o) c.number_of-number.ensures.cost
 
 pub returns-then-number-least-clause-costs : goal.returns-then-number-least-clause-costs
 returns-then-number-least-clause-costs c =
-    map-set shown_cost c.args.costs.now c.args.place c.number_of-number.result ∙ ap (λ o. slice_set (map shown_cost c.args.costs.now) c.args.place o) c.number_of-number.ensures
+    map-set shown_cost c.args.costs.now c.args.place c.number_of-number.result ∙ ap (λ o. slice_set (map shown_cost c.args.costs.now) c.args.place o) c.number_of-number.ensures.cost
 
 pub returns-then-was-least-clause-costs : goal.returns-then-was-least-clause-costs
 returns-then-was-least-clause-costs c =
-    map-set shown_cost c.args.costs.now c.args.place c.number_of-number.result ∙ ap (λ o. slice_set (map shown_cost c.args.costs.now) c.args.place o) c.number_of-number.ensures
+    map-set shown_cost c.args.costs.now c.args.place c.number_of-number.result ∙ ap (λ o. slice_set (map shown_cost c.args.costs.now) c.args.place o) c.number_of-number.ensures.cost
 
 pub returns-else-was-least-clause-costs : goal.returns-else-was-least-clause-costs
 returns-else-was-least-clause-costs c =
-    map-set shown_cost c.args.costs.now c.args.place c.number_of-number.result ∙ ap (λ o. slice_set (map shown_cost c.args.costs.now) c.args.place o) c.number_of-number.ensures
+    map-set shown_cost c.args.costs.now c.args.place c.number_of-number.result ∙ ap (λ o. slice_set (map shown_cost c.args.costs.now) c.args.place o) c.number_of-number.ensures.cost
+
+pub returns-then-number-least-clause-marked : goal.returns-then-number-least-clause-marked
+returns-then-number-least-clause-marked c = put_marked c.args.costs.now c.args.place c.number_of-number.result c.requires.marked c.requires.place c.number_of-number.ensures.mark
+
+pub returns-then-was-least-clause-marked : goal.returns-then-was-least-clause-marked
+returns-then-was-least-clause-marked c = put_marked c.args.costs.now c.args.place c.number_of-number.result c.requires.marked c.requires.place c.number_of-number.ensures.mark
+
+pub returns-else-was-least-clause-marked : goal.returns-else-was-least-clause-marked
+returns-else-was-least-clause-marked c = put_marked c.args.costs.now c.args.place c.number_of-number.result c.requires.marked c.requires.place c.number_of-number.ensures.mark
+
+pub returns-then-number-was-clause-marked : goal.returns-then-number-was-clause-marked
+returns-then-number-was-clause-marked c = c.requires.marked

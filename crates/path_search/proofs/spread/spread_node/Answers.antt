@@ -3,7 +3,7 @@ use Rattle.std.proofs.lemmas.List.{get_or_default}
 use Rattle.std.proofs.lemmas.Option.{slice_get_within}
 use Rattle.te_links.specs.Rows.{Rows, IsTopology}
 use Rattle.te_links.specs.Index.{LinkEndsAt}
-use Rattle.path_search.specs.Barred.{AreBarred}
+use Rattle.path_search.specs.Asked.{IsAsked}
 use Rattle.path_search.specs.Reading.{SpreadsLink}
 use Rattle.path_search.proofs.ReadLinks.{spread_first, spread_step, spread_last}
 use Rattle.path_search.proofs.spread.spread_node.Goals as goal
@@ -35,7 +35,7 @@ spread_link-requires g c κs =
       (
         subst IsTopology (sym inv.same) c.requires.rules,
         (
-          subst (λ (h : Rows). AreBarred h c.args.query.now c.args.barred.now) (sym inv.same) c.requires.barred,
+          subst (λ (h : Rows). IsAsked h c.args.query.now c.args.asked.now) (sym inv.same) c.requires.asked,
           (
             subst (λ (h : Rows). p < length h.links) (sym inv.same) within,
             (
@@ -66,8 +66,8 @@ loop-index-preserved g c =
           let r = inv.way start done n o in (
             r.0 + 1,
             (
-              spread_step rows q c.args.barred.now start old c.spread_link.new.labels c.loop-index.waiting c.spread_link.new.waiting done c.args.place places k r.0 p
-                  c.requires.rules c.requires.barred (inv.long ∙ c.requires.labels) c.links_into-places.ensures c.loop-index-test.true (get_or_default places k p 0 c.loop-index-test.true) r.1.0 step,
+              spread_step rows q c.args.asked.now.barred.items start old c.spread_link.new.labels c.loop-index.waiting c.spread_link.new.waiting done c.args.place places k r.0 p
+                  c.requires.rules c.requires.asked.barred (inv.long ∙ c.requires.labels) c.links_into-places.ensures c.loop-index-test.true (get_or_default places k p 0 c.loop-index-test.true) r.1.0 step,
               omega (arith, r.1.1, c.spread_link.ensures.reads),
             ),
           );

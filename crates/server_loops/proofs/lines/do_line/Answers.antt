@@ -1,8 +1,8 @@
 use Rattle.std.proofs.Common.{◌≡◌, ◌||◌, ℕ, List, false, length, nat_lt, sym, subst, ◌∙◌}
 use Rattle.ted_watch.specs.Watch.{published}
-use Rattle.server_loops.specs.Operating.{DoesEvent, context, line_most, progress}
+use Rattle.server_loops.specs.Operating.{DoesAsked, context, line_most, progress}
 use Rattle.server_loops.specs.OperatorSteps.{Goes, text_of}
-use Rattle.plant_text.specs.Lines.{line_in}
+use Rattle.plant_text.specs.OperatorLines.{line_in}
 use Rattle.server_loops.proofs.Doing.{is_long_text, long_goes, short_goes, short_text}
 use Rattle.server_loops.proofs.lines.do_line.Goals as goal
 
@@ -29,4 +29,4 @@ returns-clause-goes g c = λ line is.
     let short : (is_long || nat_lt line_most (length (text_of has_end bytes))) ≡ false = sym c.is_too_long.ensures ∙ c.if-is_too_long.false in
     let same : c.text.result.now ≡ text_of has_end line = c.text.ensures ∙ short_text has_end bytes is_long line is short in
     short_goes x n a b r a.past b.past spent before after (text_of has_end line) (sym (is_long_text has_end bytes is_long line is) ∙ short)
-    (subst (λ (t : List ℕ). Goes (DoesEvent x n (line_in x.network t) a b) r a.past b.past spent before after) same c.do_text.ensures.goes)
+    (subst (λ (t : List ℕ). Goes (DoesAsked x n (line_in x.network t) a b) r a.past b.past spent before after) same c.do_text.ensures.goes)

@@ -1,7 +1,7 @@
 use Rattle.std.proofs.Common.{◌∙◌, None, Some, Ok, Err, [], ap, append-nil, refl, sym}
-use Rattle.plant_text.specs.Lines.{line_in}
+use Rattle.plant_text.specs.OperatorLines.{line_in}
 use Rattle.ted_watch.specs.Watch.{published}
-use Rattle.server_loops.specs.Operating.{DoesEvent, context, progress}
+use Rattle.server_loops.specs.Operating.{DoesAsked, context, progress}
 use Rattle.server_loops.specs.Texts.{bad_line_text}
 use Rattle.server_loops.proofs.Doing.{event_goes, goes_said, outside, said_or}
 use Rattle.server_loops.proofs.lines.do_text.Goals as goal
@@ -11,11 +11,11 @@ returns-in-Ok-Some-clause-goes g c =
     let x = context c.args.network.now (g.T.Store.files c.args.store.now) in
     let k = c.args.number in
     let a = progress (g.D.Chart.charted c.args.desk.now) (published c.args.publisher.now) (g.T.Store.faults c.args.store.now) (g.T.Store.failed_at c.args.store.now) in
-    let b = progress (g.D.Chart.charted c.do_event.new.desk) (published c.do_event.new.publisher) (g.T.Store.faults c.do_event.new.store) (g.T.Store.failed_at c.do_event.new.store) in
-    let spent = (g.D.Chart.charted c.do_event.new.desk).spent in
+    let b = progress (g.D.Chart.charted c.do_asked.new.desk) (published c.do_asked.new.publisher) (g.T.Store.faults c.do_asked.new.store) (g.T.Store.failed_at c.do_asked.new.store) in
+    let spent = (g.D.Chart.charted c.do_asked.new.desk).spent in
     let before = c.args.into.now.items in
-    let after = c.do_event.new.into.items in
-    event_goes x k a b c.do_event.result a.past b.past spent before after (line_in c.args.network.now c.args.text.now) (Some (Some c.in-Ok-Some.event)) (c.in-Ok-Some.ensures ∙ ap Some c.in-Ok-Some.field-0-is) c.do_event.ensures.goes
+    let after = c.do_asked.new.into.items in
+    event_goes x k a b c.do_asked.result a.past b.past spent before after (line_in c.args.network.now c.args.text.now) (Some (Some c.in-Ok-Some.asked)) (c.in-Ok-Some.ensures ∙ ap Some c.in-Ok-Some.field-0-is) c.do_asked.ensures.goes
 
 pub returns-in-Ok-None-clause-goes : goal.returns-in-Ok-None-clause-goes
 returns-in-Ok-None-clause-goes g c =
@@ -25,7 +25,7 @@ returns-in-Ok-None-clause-goes g c =
     let spent = (g.D.Chart.charted c.args.desk.now).spent in
     let before = c.args.into.now.items in
     event_goes x k a a (Ok tt) a.past a.past spent before before (line_in c.args.network.now c.args.text.now) (Some None) (c.in-Ok-None.ensures ∙ ap Some c.in-Ok-None.field-0-is)
-    (goes_said (DoesEvent x k (Some None) a a) [] a.past spent before before refl c.requires.fresh (sym (append-nil before)))
+    (goes_said (DoesAsked x k (Some None) a a) [] a.past spent before before refl c.requires.fresh (sym (append-nil before)))
 
 pub returns-in-Err-Outside-clause-goes : goal.returns-in-Err-Outside-clause-goes
 returns-in-Err-Outside-clause-goes g c =
@@ -35,5 +35,5 @@ returns-in-Err-Outside-clause-goes g c =
     let spent = (g.D.Chart.charted c.args.desk.now).spent in
     let before = c.args.into.now.items in
     let after = c.tell_bad_line.new.into.items in
-    event_goes x k a a c.tell_bad_line.result a.past a.past spent before after (line_in c.args.network.now c.args.text.now) None (outside c.read_line.result (line_in c.args.network.now c.args.text.now) (c.in-Err-Outside.is ∙ ap Err c.in-Err-Outside.field-0-is) c.read_line.ensures)
-    (said_or (DoesEvent x k None a a) (bad_line_text k) c.tell_bad_line.result a.past spent before after refl c.requires.fresh c.tell_bad_line.ensures.told c.tell_bad_line.ensures.lack)
+    event_goes x k a a c.tell_bad_line.result a.past a.past spent before after (line_in c.args.network.now c.args.text.now) None (outside c.read_operator_line.result (line_in c.args.network.now c.args.text.now) (c.in-Err-Outside.is ∙ ap Err c.in-Err-Outside.field-0-is) c.read_operator_line.ensures)
+    (said_or (DoesAsked x k None a a) (bad_line_text k) c.tell_bad_line.result a.past spent before after refl c.requires.fresh c.tell_bad_line.ensures.told c.tell_bad_line.ensures.lack)

@@ -1,7 +1,7 @@
 use Rattle.std.proofs.Common.{Ok}
 use Rattle.plant_model.specs.declared.event.Event.TheVariants.{Open}
 use Rattle.server_loops.specs.Desks.{Goes}
-use Rattle.server_loops.specs.Sessions.{sides}
+use Rattle.dom_edge.specs.Heeding.{sides}
 use Rattle.server_loops.proofs.Closing.{closed, unopened_session}
 use Rattle.server_loops.proofs.sessions.serve_session.Goals as goal
 

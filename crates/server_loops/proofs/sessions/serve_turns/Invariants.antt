@@ -1,5 +1,5 @@
 use Rattle.std.proofs.Common.{◌≡◌, length}
-use Rattle.server_loops.specs.Sessions.{sides}
+use Rattle.dom_edge.specs.Heeding.{sides}
 use Rattle.server_loops.proofs.Serving.{IsServing}
 use Rattle.server_loops.proofs.sessions.serve_turns.Given as goal
 

@@ -1,4 +1,6 @@
-use Rattle.std.proofs.Common.{◌+◌, arith, subst, sym}
+use Rattle.std.proofs.Common.{◌+◌, ◌∙◌, ap, subst, sym}
+use Rattle.dom_edge.specs.Causes.{next_count}
+use Rattle.dom_edge.proofs.Counts.{counted_more}
 use Rattle.server_loops.proofs.Telling.{IsTelling, one_told}
 use Rattle.server_loops.proofs.ticking.tick_on.Goals as goal
 
@@ -13,5 +15,5 @@ loop-turn-preserved g c =
     record {
       telling = subst (λ n. IsTelling (c.loop-turn._turn + 1) c.tell-told.result old new last n) (sym c.now-now.ensures.reading)
           (one_told c.loop-turn._turn c.loop-turn.told old mid new last now c.loop-turn.invariant.telling reading c.now-now.ensures.never_falls c.tell-told.result c.tell-told.ensures);
-      counted = omega (arith, c.now-now.ensures.counted, c.loop-turn.invariant.counted);
+      counted = c.now-now.ensures.counted ∙ ap next_count c.loop-turn.invariant.counted ∙ sym (counted_more c.loop-turn._turn (g.C.Clock.readings c.args.clock.now));
     }

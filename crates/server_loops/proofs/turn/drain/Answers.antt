@@ -2,7 +2,7 @@ use Rattle.std.proofs.Common.{Ok}
 use Rattle.plant_model.specs.declared.event.Event.TheVariants.{Drain}
 use Rattle.plant_model.specs.declared.outcome.Outcome.TheVariants.{Drained}
 use Rattle.server_loops.specs.Desks.{Goes}
-use Rattle.server_loops.specs.Sessions.{sides}
+use Rattle.dom_edge.specs.Heeding.{sides}
 use Rattle.server_loops.proofs.Turning.{drain_refused, drained_so}
 use Rattle.server_loops.proofs.turn.drain.Goals as goal
 

@@ -1,8 +1,8 @@
-use Rattle.std.proofs.Common.{◌≡◌, ◌≤◌, length, take, [], ◌++◌, Ok, Err, refl, arith, subst, sym, ap, ◌∙◌, append-nil}
+use Rattle.std.proofs.Common.{◌≡◌, length, take, [], ◌++◌, Ok, Err, refl, arith, subst, sym, ap, ◌∙◌, append-nil}
 use Rattle.std.proofs.lemmas.Result.{err_from_is_err_and}
 use Rattle.dom_edge.specs.Streams.{Writing}
 use Rattle.dom_edge.specs.declared.stream.Got.TheVariants as got
-use Rattle.server_loops.specs.Sessions.{sides}
+use Rattle.dom_edge.specs.Heeding.{sides}
 use Rattle.server_loops.specs.Steps.{IsHanded, IsReceived}
 use Rattle.server_loops.specs.declared.sessions.Ended.TheVariants.{PeerEnd, ReadFault}
 use Rattle.server_loops.proofs.Turning.{at_end, at_fault, unfed, taken}
@@ -15,7 +15,7 @@ returns-in-Failed g c =
     let r0 = g.L.Wire.reading c.args.link.now in
     let r1 = g.L.Wire.reading c.read.new.self in
     let w = g.L.Wire.writing c.args.link.now in
-    let room : length c.read.new.into ≤ 65536 = omega (arith, c.requires.room, c.read.auto.into) in
+    let room : length c.read.new.into ≡ 65536 = omega (arith, c.requires.room, c.read.auto.into) in
     subst (λ (v : Writing). IsReceived c.args.peer (Err ReadFault) d d (sides r0 w) (sides r1 v)) (sym c.in-Failed.ensures.writing)
     (at_fault c.args.peer r0 r1 w c.read.new.into room d c.requires.unspent c.in-Failed.ensures.reads)
 
@@ -25,7 +25,7 @@ returns-in-End g c =
     let r0 = g.L.Wire.reading c.args.link.now in
     let r1 = g.L.Wire.reading c.read.new.self in
     let w = g.L.Wire.writing c.args.link.now in
-    let room : length c.read.new.into ≤ 65536 = omega (arith, c.requires.room, c.read.auto.into) in
+    let room : length c.read.new.into ≡ 65536 = omega (arith, c.requires.room, c.read.auto.into) in
     subst (λ (v : Writing). IsReceived c.args.peer (Err PeerEnd) d d (sides r0 w) (sides r1 v)) (sym c.in-End.ensures.writing)
     (at_end c.args.peer r0 r1 w c.read.new.into room d c.requires.unspent c.in-End.ensures.reads)
 
@@ -39,7 +39,7 @@ returns-in_err-feed-in-Bytes g c =
     let into = c.read.new.into in
     let n = c.in-Bytes.count in
     let end = c.in_err-feed-in-Bytes.field-0.0 in
-    let room : length into ≤ 65536 = omega (arith, c.requires.room, c.read.auto.into) in
+    let room : length into ≡ 65536 = omega (arith, c.requires.room, c.read.auto.into) in
     let p = err_from_is_err_and c.from_residual.result c.from_residual.ensures.1 in
     let fails : IsHanded c.args.peer (take n into) (Err end) old new = rw c.in_err-feed-in-Bytes.was at c.feed.ensures in
     rw (p.1, p.2)
@@ -55,7 +55,7 @@ returns g c =
     let r1 = g.L.Wire.reading c.read.new.self in
     let w = g.L.Wire.writing c.args.link.now in
     let into = c.read.new.into in
-    let room : length into ≤ 65536 = omega (arith, c.requires.room, c.read.auto.into) in
+    let room : length into ≡ 65536 = omega (arith, c.requires.room, c.read.auto.into) in
     elim c.match-read.branch [
       | in-Quiet b ↦
           let is : mid.calls ≡ old.calls = ap (λ d. (g.D.Desk.desked d).calls) b.desk-is in

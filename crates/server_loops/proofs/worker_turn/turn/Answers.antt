@@ -1,5 +1,5 @@
 use Rattle.std.proofs.lemmas.Result.{err_from_is_err_and}
-use Rattle.std.proofs.Common.{◌≡◌, ◌∷◌, [], ℕ, Ok, Err, None, Some, sym, ap, subst, ◌∙◌}
+use Rattle.std.proofs.Common.{ℕ, Ok, Err, None, Some, sym, subst}
 use Rattle.std.specs.Prelude.{Contains, List}
 use Rattle.std.proofs.lemmas.List.Elements.{Contains-push}
 use Rattle.dom_base.specs.declared.names.As.{As}

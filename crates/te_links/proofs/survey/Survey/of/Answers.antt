@@ -16,9 +16,9 @@ pub returns : goal.returns
 returns c =
     let g = rows_of_parts c.args.parts.now in
     let nodes : c.in_ok-nodes.nodes.items ≡ g.nodes = c.in_ok-nodes.ensures.items ∙ c.as_slice.ensures in
-    let nears : c.deref-2.result.now ≡ map (λ l. l.near) g.links ++ map (λ o. o.link.near) g.outs = c.deref-2.ensures.value ∙ c.in_ok-nears.ensures in
-    let fars : c.deref-3.result.now ≡ map (λ l. l.far) g.links ++ map (λ o. o.link.far) g.outs = c.deref-3.ensures.value ∙ c.in_ok-fars.ensures in
-    let domains = c.deref-4.ensures.value ∙ c.in_ok-domains.ensures in
+    let nears : c.deref-3.result.now ≡ map (λ l. l.near) g.links ++ map (λ o. o.link.near) g.outs = c.deref-3.ensures.value ∙ c.in_ok-nears.ensures in
+    let fars : c.deref-4.result.now ≡ map (λ l. l.far) g.links ++ map (λ o. o.link.far) g.outs = c.deref-4.ensures.value ∙ c.in_ok-fars.ensures in
+    let domains = c.deref-5.ensures.value ∙ c.in_ok-domains.ensures in
     record {
       nodes = subst (λ (xs : List Addr). IsPermutation xs c.sort.new.self.items) nodes c.in_ok-sort.ensures.permutation;
       rising = in_order (λ (a : Addr). rank a) c.sort.new.self.items (IsNonDecreasingBy-from_sort (λ (a : Addr). rank a) c.sort.new.self.items c.in_ok-sort.ensures.sorted);
@@ -32,8 +32,8 @@ returns c =
           (tells _ c.as_slice-2.result.now c.in_ok-counts_before.field-0.items c.in_ok-counts_before.ensures entry_told);
       domains = c.in_ok-counts_before-2.ensures.each ∙ ap (length {A = As}) domains ∙ length-map g.entries (λ (e : Entry). e.from_as);
       same_domain = domains_told _ g.entries c.in_ok-counts_before-2.field-0.items (rw domains at c.in_ok-counts_before-2.ensures) (λ a b. search rules);
-      tails = subst (λ (xs : List Addr). IsFewUpTo 16 xs c.in_ok-few_up_to.field-0) (c.deref-5.ensures.value ∙ c.in_ok-tails.ensures) c.in_ok-few_up_to.ensures;
-      entry_nodes = subst (λ (xs : List Addr). IsFewUpTo 64 xs c.in_ok-few_up_to-2.field-0) (c.deref-6.ensures.value ∙ c.in_ok-entry_nodes.ensures) c.in_ok-few_up_to-2.ensures;
+      tails = subst (λ (xs : List Addr). IsFewUpTo 16 xs c.in_ok-few_up_to.field-0) (c.deref-6.ensures.value ∙ c.in_ok-tails.ensures) c.in_ok-few_up_to.ensures;
+      entry_nodes = subst (λ (xs : List Addr). IsFewUpTo 64 xs c.in_ok-few_up_to-2.field-0) (c.deref-7.ensures.value ∙ c.in_ok-entry_nodes.ensures) c.in_ok-few_up_to-2.ensures;
     }
 
 pub counts_before-requires : goal.counts_before-requires

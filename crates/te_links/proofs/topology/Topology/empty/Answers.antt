@@ -8,7 +8,7 @@ invariant_of-result c = record {
   order = rw (c.new.ensures.items, c.new-2.ensures.items, c.new-3.ensures.items, c.new-4.ensures.items) (nothing_in_order c.args.own);
   short = rw c.new-4.ensures.items (omega arith);
   index = rw (c.new.ensures.items, c.new-2.ensures.items, c.new-5.ensures.items) nothing_indexed;
-  tails = rw (c.new.ensures.items, c.new-2.ensures.items, c.none.ensures.tails) nothing_begins;
-  heads = rw (c.new.ensures.items, c.new-2.ensures.items, c.none.ensures.heads) nothing_ends;
+  tails = rw (c.new.ensures.items, c.new-2.ensures.items, c.none-2.ensures.tails) nothing_begins;
+  heads = rw (c.new.ensures.items, c.new-2.ensures.items, c.none-2.ensures.heads) nothing_ends;
   leaving = rw (c.new.ensures.items, c.new-2.ensures.items, c.new-6.ensures.items) nothing_leaving;
 }
