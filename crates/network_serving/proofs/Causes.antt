@@ -10,6 +10,7 @@ use Rattle.plant_text.specs.declared.fault.NetFault.{NetFault}
 use Rattle.plant_text.specs.declared.settings.ElementRow.{ElementRow}
 use Rattle.plant_text.specs.declared.settings.NetworkParts.{NetworkParts}
 use Rattle.network_serving.specs.Files.{IsBadAt, IsBadText, IsFileEnd, IsLoadEnd, IsNamedEnd, IsNoFault, IsSettingsFault, IsTopologyEnd, topology_max}
+use Rattle.network_serving.specs.Loading.{IsOpenEnd}
 use Rattle.network_serving.specs.Ports.{IsRefusedPort}
 use Rattle.network_serving.specs.declared.served.Served.{Served}
 use Rattle.network_serving.specs.declared.served.Served.TheVariants as served
@@ -110,3 +111,14 @@ topologies_end files before name n a b c failed_at s has same less is =
 
 pub want_end : (files : Option Files) (name : List ℕ) (counts : ℕ × ℕ) (failed_at : List ℕ) (s : Served) → s ≡ served.NoMemory → IsLoadEnd files name counts failed_at s
 want_end files name counts failed_at s is = inl (subst (IsFileEnd files name settings_max IsSettingsFault counts failed_at) (sym is) tt)
+
+-- the lock is not opened, since memory lacks, or a topology is not to be had
+pub want_open : (files : Option Files) (n : NetworkParts) (counts : ℕ × ℕ) (failed_at : List ℕ) (s : Served) → s ≡ served.NoMemory → IsOpenEnd files n counts failed_at s
+want_open files n counts failed_at s is = inl is
+
+pub topology_open : (files : Option Files) (n : NetworkParts) (counts : ℕ × ℕ) (failed_at : List ℕ) (s : Served) → IsTopologyEnd files n counts failed_at s → IsOpenEnd files n counts failed_at s
+topology_open files n counts failed_at s is = inr is
+
+pub open_end : (files before : Option Files) (name : List ℕ) (n : NetworkParts) (a b c : ℕ) (failed_at : List ℕ) (s : Served) → HasNetwork files name n → before ≡ files → a ≤ b → IsOpenEnd before n (b, c) failed_at s → IsLoadEnd files name (a, c) failed_at s
+open_end files before name n a b c failed_at s has same less (inl is) = want_end files name (a, c) failed_at s is
+open_end files before name n a b c failed_at s has same less (inr is) = topologies_end files before name n a b c failed_at s has same less is

@@ -1,5 +1,7 @@
 mod Plans
 mod Causes
+mod Loads
+mod Runs
 mod Opening
 mod Repeats
 mod Starts

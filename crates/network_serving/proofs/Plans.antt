@@ -1,11 +1,11 @@
 -- Tasks that are planned one after the other.
-use Rattle.std.proofs.Common.{◌≡◌, ◌∙◌, ◌+◌, ◌-◌, ◌^◌, ◌<◌, ◌≤◌, ℕ, zero, suc, min, List, [], ◌∷◌, ◌++◌, length, map, take, get_or, All, ap, refl, sym, subst, arith, append_assoc, append-nil, Option, Some}
+use Rattle.std.proofs.Common.{◌≡◌, ◌∙◌, ◌+◌, ◌-◌, ◌^◌, ◌<◌, ◌≤◌, ℕ, zero, suc, min, List, [], ◌∷◌, ◌++◌, length, map, take, get_or, All, ap, refl, sym, subst, arith, append_assoc, append-nil, OnOk, Option, Some, Result, Ok, Err}
 use Rattle.std.specs.Prelude.{slice_get}
 use Rattle.std.proofs.lemmas.List.{flat_map_more, length-take-le, map-append, take_more}
 use Rattle.std.specs.List.{flat_map}
 use Rattle.dom_base.specs.declared.addr.Addr.{Addr}
 use Rattle.dom_base.specs.declared.names.As.{As}
-use Rattle.std.proofs.lemmas.List.Elements.{All-head, All-nil, All-push, All-tail}
+use Rattle.std.proofs.lemmas.List.Elements.{All-head, All-nil, All-push, All-tail, All-weaker}
 use Rattle.std.proofs.lemmas.Option.{slice_get-map, slice_get_read}
 use Rattle.std.specs.Option.{option_map}
 use Rattle.dom_edge.specs.Causes.{next_count}
@@ -19,7 +19,9 @@ use Rattle.network_serving.specs.declared.duties.Duty.TheVariants.{Carry, Port, 
 use Rattle.network_serving.specs.declared.tasks.Task.{Task}
 use Rattle.network_serving.specs.Duties.{both_ways, child_ways, first_duties, port_duties, ways_of, work_duties}
 use Rattle.network_serving.specs.Ends.{RoseBy}
-use Rattle.network_serving.specs.Starting.{Adds, peer_ports}
+use Rattle.turn_desk.specs.Desks.{Stand, split_from}
+use Rattle.network_serving.specs.Bases.{Base, Desk, base_in}
+use Rattle.network_serving.specs.Starting.{Adds, IsFresh, IsPlanned, peer_ports}
 
 -- ---- duties
 
@@ -69,26 +71,26 @@ children_more start children i d old new below first second =
 
 -- ---- tasks
 
-module _ {K F I O R : Type 0} (opened_at : K → ℕ) (heeds dialled_to : K → Option Addr) where
+module _ {K F I O R : Type 0} (opened_at : K → ℕ) (heeds dialled_to : K → Option Addr) (stand : Stand) where
   abbrev Added : List (Task K F I O R) → List (Task K F I O R) → List Duty → Type 0
-  Added = Adds opened_at heeds dialled_to
+  Added = Adds opened_at heeds dialled_to stand
 
   abbrev New : Task K F I O R → Type 0
-  New = IsNew heeds dialled_to
+  New = IsPlanned heeds dialled_to stand
 
   pub none_added : (tasks : List (Task K F I O R)) → Added tasks tasks []
-  none_added tasks = record { duties_are = sym (append-nil (map (duty_of opened_at) tasks)); are_new = λ all. all }
+  none_added tasks = record { duties_are = sym (append-nil (map (duty_of opened_at) tasks)); are_planned = λ all. all }
 
   pub one_added : (tasks : List (Task K F I O R)) (task : Task K F I O R) (new : List (Task K F I O R)) → New task → new ≡ tasks ++ task ∷ [] → Added tasks new (duty_of opened_at task ∷ [])
   one_added tasks task new is_new is = record {
     duties_are = ap (map (duty_of opened_at)) is ∙ map-append (duty_of opened_at) tasks (task ∷ []);
-    are_new = λ all. subst (All New) (sym is) (All-push New tasks task all is_new);
+    are_planned = λ all. subst (All New) (sym is) (All-push New tasks task all is_new);
   }
 
   pub added_on : (old mid new : List (Task K F I O R)) (a b : List Duty) → Added old mid a → Added mid new b → Added old new (a ++ b)
   added_on old mid new a b first second = record {
     duties_are = second.duties_are ∙ ap (λ (ds : List Duty). ds ++ b) first.duties_are ∙ append_assoc (map (duty_of opened_at) old) a b;
-    are_new = λ all. second.are_new (first.are_new all);
+    are_planned = λ all. second.are_planned (first.are_planned all);
   }
 
   -- a task of the port of one more peer, or of one more worker
@@ -112,8 +114,29 @@ module _ {K F I O R : Type 0} (opened_at : K → ℕ) (heeds dialled_to : K → 
             ∙ ap (λ (ts : List (Task K F I O R)). map (duty_of opened_at) ts ++ (port_duties 0 peers ++ (Carry (ways_of parts) ∷ work_duties 0 parts.workers))) none
             ∙ ap (λ (rs : List PeerRow). port_duties 0 rs ++ (Carry (ways_of parts) ∷ work_duties 0 parts.workers)) rows
             ∙ ap first_duties same,
-        adds.are_new (subst (All New) (sym none) (All-nil New)),
+        adds.are_planned (subst (All New) (sym none) (All-nil New)),
       )
+
+-- of a result that is Ok only where the other is
+pub ok_so : {T E : Type 0} {P Q : Type 0} (r : Result T E) → (P → Q) → OnOk r P → OnOk r Q
+ok_so (Ok x) so is = so is
+ok_so (Err e) so is = tt
+
+-- a desk that was split off stands as that from which all are split
+pub beside : (new mid s : Stand) → new ≡ split_from mid → mid ≡ s → IsFresh s → Desk new ≡ Desk s
+beside new mid s split same fresh = ap Desk (split ∙ ap split_from same ∙ fresh)
+
+module _ {K F I O R : Type 0} (opened_at : K → ℕ) (heeds dialled_to : K → Option Addr) (stand : Stand) where
+  -- they may begin
+  pub planned_new : (tasks : List (Task K F I O R)) → All (IsPlanned heeds dialled_to stand) tasks → All (IsNew heeds dialled_to) tasks
+  planned_new tasks all = All-weaker (IsPlanned heeds dialled_to stand) (IsNew heeds dialled_to) (λ task is. is.0) tasks all
+
+  -- what stands behind them
+  pub planned_bases : (tasks : List (Task K F I O R)) → All (IsPlanned heeds dialled_to stand) tasks → map base_in tasks ≡ map (λ (d : Duty). Desk stand) (map (duty_of opened_at) tasks)
+  planned_bases [] all = refl
+  planned_bases (task ∷ tasks) all =
+      ap (λ (b : Base). b ∷ map base_in tasks) (All-head (IsPlanned heeds dialled_to stand) task tasks all).1
+      ∙ ap (λ (bs : List Base). Desk stand ∷ bs) (planned_bases tasks (All-tail (IsPlanned heeds dialled_to stand) task tasks all))
 
 -- ---- tasks that are taken one after the other
 

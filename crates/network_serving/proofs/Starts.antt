@@ -12,14 +12,16 @@ use Rattle.plant_text.specs.declared.settings.PeerRow.{PeerRow}
 use Rattle.network_serving.specs.declared.duties.Duty.{Duty}
 use Rattle.network_serving.specs.declared.duties.Duty.TheVariants.{Operate}
 use Rattle.network_serving.specs.Duties.{duties_of, first_duties, watch_duties}
-use Rattle.network_serving.specs.Ends.{Ends, RoseBy, World}
+use Rattle.network_serving.specs.Bases.{Base, Desk, IsReady, Operator, Server, bases_of, watch_bases}
+use Rattle.network_serving.specs.Ends.{Ends, IsServed, RoseBy, World}
 use Rattle.network_serving.specs.Files.{IsLoadEnd, IsNamedEnd}
-use Rattle.network_serving.specs.Ports.{ports_of}
+use Rattle.network_serving.specs.Ports.{AreApart, ports_of}
 use Rattle.network_serving.specs.Starting.{Called, IsClosed, IsPlanEnd, IsStartEnd, IsUnlistened, IsUnstarted, called, peer_ports}
 use Rattle.network_serving.specs.declared.served.Served.{Served}
 use Rattle.network_serving.specs.declared.served.Served.TheVariants as served
 use Rattle.network_serving.proofs.Causes.{rose_from}
 use Rattle.network_serving.proofs.Plans.{rose_more}
+use Rattle.network_serving.proofs.Runs.{is_run}
 
 -- ---- places
 
@@ -130,6 +132,16 @@ duties_on n old all with last first second third =
     ∙ append_assoc (old ++ first_duties n) (Operate ∷ []) (watch_duties n.watch)
     ∙ append_assoc old (first_duties n) (Operate ∷ watch_duties n.watch)
 
+pub bases_on : (n : NetworkParts) (x : Server) (old all with last : List Base) → all ≡ old ++ map (λ (d : Duty). Desk x.desk) (first_duties n) → with ≡ all ++ Operator x.desk n x.shown x.list ∷ [] → last ≡ with ++ watch_bases x.known x.list n.watch →
+    last ≡ old ++ bases_of n x
+bases_on n x old all with last first second third =
+    let front : List Base = map (λ (d : Duty). Desk x.desk) (first_duties n) in
+    let operator : Base = Operator x.desk n x.shown x.list in
+    third
+    ∙ ap (λ (bs : List Base). bs ++ watch_bases x.known x.list n.watch) (second ∙ ap (λ (bs : List Base). bs ++ operator ∷ []) first)
+    ∙ append_assoc (old ++ front) (operator ∷ []) (watch_bases x.known x.list n.watch)
+    ∙ append_assoc old front (operator ∷ watch_bases x.known x.list n.watch)
+
 -- ---- all of it
 
 no_other_end : (files : Option Files) (at : As) (topology : Option (List ℕ)) (counts : ℕ × ℕ) (failed_at : List ℕ) (s : Served) → (s ≡ served.NoMemory → ⊥) → ((name : List ℕ) → IsNamedEnd files at (Some name) counts failed_at s → ⊥) → IsNamedEnd files at topology counts failed_at s → ⊥
@@ -157,6 +169,9 @@ module _ (w : World) (name : List ℕ) (turns : ℕ) where
     | inl file ↦ absurd file
     | inr network ↦ elim network.ends [ inl port' ↦ absurd port' | inr topology ↦ absurd (no_other_end w.files topology.row.own topology.row.topology w.store_faults w.failed_at served.NoThread (λ e. let no : ⊥ = cc in no) (λ n e. e) topology.ends) ]
   ]
+
+  pub all_served : (n : NetworkParts) (x : Server) → HasNetwork w.files name n → AreApart n → IsReady w.files n x → w.started.1 ≡ w.started.0 ++ duties_of n → w.bases.1 ≡ w.bases.0 ++ bases_of n x → RoseBy turns w.readings → IsServed w name turns
+  all_served n x has apart ready duties behind read = record { network = n; has = has; apart = apart; duties = duties; server = x; ready = ready; runs = λ s at. is_run w.files n x ready s at; behind = behind; read = read }
 
   pub start_ends : (n : NetworkParts) (s : Served) → HasNetwork w.files name n → IsStartEnd (ports_of n) (called w.port_calls w.port_faults w.failed_port) w.spawner_faults s → Ends w name turns s
   start_ends n (served.NoPort port) has is = record { network = n; has = has; place = is.place; at_place = is.at_place; called = is.calls; failed = is.failed; at_port = is.at_port }

@@ -5,14 +5,18 @@ use Rattle.dom_edge.specs.Stores.{Files}
 use Rattle.network_files.specs.Settings.{HasNetwork}
 use Rattle.plant_text.specs.declared.settings.NetworkParts.{NetworkParts}
 use Rattle.network_serving.specs.declared.duties.Duty.{Duty}
+use Rattle.network_serving.specs.Bases.{Base, IsReady, Server, bases_of}
 use Rattle.network_serving.specs.Duties.{duties_of}
 use Rattle.network_serving.specs.Files.{IsLoadEnd}
 use Rattle.network_serving.specs.Ports.{AreApart, ports_of}
+use Rattle.network_serving.specs.Runs.{IsAtLock, IsRun}
+use Rattle.turn_desk.specs.Desks.{Stand}
 use Rattle.network_serving.specs.declared.served.Served.{Served}
 use Rattle.network_serving.specs.declared.served.Served.TheVariants as served
 
 -- What is told of the outside, before and after: the files, the store's faults and the name at which it last failed; the calls of the
--- ports, their faults and the port at which they last failed; the spawner's duties and faults; the clock's readings.
+-- ports, their faults and the port at which they last failed; the spawner's duties, what stands behind their tasks, and its faults; the
+-- clock's readings.
 pub record World : Type 0 where
   pub files : Option Files
   pub store_faults : ℕ × ℕ
@@ -21,6 +25,7 @@ pub record World : Type 0 where
   pub port_faults : ℕ × ℕ
   pub failed_port : ℕ
   pub started : List Duty × List Duty
+  pub bases : List Base × List Base
   pub spawner_faults : ℕ × ℕ
   pub readings : ℕ × ℕ
 
@@ -38,12 +43,17 @@ pub record IsPortEnd (w : World) (name : List ℕ) (port : ℕ) : Type 0 where
   pub failed : Rose w.port_faults.0 w.port_faults.1
   pub at_port : w.failed_port ≡ port
 
--- exactly the duties of the network were started, in their order, and the clock was read in each turn
+-- Exactly the duties of the network were started, in their order, all at one lock, which had just been opened round the network with its
+-- topologies, and whose histories are runs of it; and the clock was read in each turn.
 pub record IsServed (w : World) (name : List ℕ) (turns : ℕ) : Type 0 where
   pub network : NetworkParts
   pub has : HasNetwork w.files name network
   pub apart : AreApart network
   pub duties : w.started.1 ≡ w.started.0 ++ duties_of network
+  pub server : Server
+  pub ready : IsReady w.files network server
+  pub runs : (s : Stand) → IsAtLock server.desk s → IsRun network s
+  pub behind : w.bases.1 ≡ w.bases.0 ++ bases_of network server
   pub read : RoseBy turns w.readings
 
 abbrev pub Ends : World → List ℕ → ℕ → Served → Type 0

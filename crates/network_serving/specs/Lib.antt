@@ -2,6 +2,9 @@
 pub mod Duties
 pub mod Ports
 pub mod Files
+pub mod Loaded
+pub mod Bases
+pub mod Runs
 pub mod Ends
 pub mod Tasks
 pub mod Watching
@@ -9,4 +12,5 @@ pub mod Running
 pub mod SpawnerStates
 pub mod Spawners
 -- inner
+pub mod Loading
 pub mod Starting

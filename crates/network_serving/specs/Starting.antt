@@ -3,6 +3,8 @@ use Rattle.std.specs.Prelude.{◌≡◌, ◌+◌, ◌≤◌, ◌-◌, ◌^◌, �
 use Rattle.dom_base.specs.declared.addr.Addr.{Addr}
 use Rattle.dom_edge.specs.Causes.{Rose}
 use Rattle.plant_text.specs.declared.settings.PeerRow.{PeerRow}
+use Rattle.turn_desk.specs.Desks.{Stand, split_from}
+use Rattle.network_serving.specs.Bases.{Desk, base_in}
 use Rattle.network_serving.specs.Tasks.{IsNew, duty_of}
 use Rattle.network_serving.specs.declared.duties.Duty.{Duty}
 use Rattle.network_serving.specs.declared.tasks.Task.{Task}
@@ -56,7 +58,15 @@ IsStartEnd ports x faults s = ⊥
 abbrev pub peer_ports : List PeerRow → List ℕ
 peer_ports rows = map (λ (row : PeerRow). row.port) rows
 
--- New tasks of these duties were put behind others.
-pub record Adds {K F I O R : Type 0} (opened_at : K → ℕ) (heeds dialled_to : K → Option Addr) (old new : List (Task K F I O R)) (duties : List Duty) : Type 0 where
+-- the desk has made no turn
+abbrev pub IsFresh : Stand → Type 0
+IsFresh s = split_from s ≡ s
+
+-- the task may begin, at a desk that stands so
+abbrev pub IsPlanned : {K F I O R : Type 0} → (K → Option Addr) → (K → Option Addr) → Stand → Task K F I O R → Type 0
+IsPlanned {K} {F} {I} {O} {R} heeds dialled_to stand task = IsNew heeds dialled_to task × (base_in task ≡ Desk stand)
+
+-- Tasks of these duties, which may begin at desks that stand so, were put behind others.
+pub record Adds {K F I O R : Type 0} (opened_at : K → ℕ) (heeds dialled_to : K → Option Addr) (stand : Stand) (old new : List (Task K F I O R)) (duties : List Duty) : Type 0 where
   pub duties_are : map (duty_of opened_at) new ≡ map (duty_of opened_at) old ++ duties
-  pub are_new : All (IsNew heeds dialled_to) old → All (IsNew heeds dialled_to) new
+  pub are_planned : All (IsPlanned heeds dialled_to stand) old → All (IsPlanned heeds dialled_to stand) new

@@ -4,6 +4,7 @@
 
 mod begun;
 mod duties;
+mod footing;
 mod gates;
 mod loading;
 mod memory;
@@ -24,6 +25,7 @@ mod watching;
 
 pub use begun::Begun;
 pub use duties::Duty;
+pub use footing::Footing;
 pub use gates::OpenGate;
 pub use memory::MemorySpawner;
 pub use running::TaskEnd;

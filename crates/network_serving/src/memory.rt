@@ -1,15 +1,17 @@
 //! A spawner in memory.
 ghost use Rattle.std.specs.Prelude.{◌≡◌, []};
 ghost use Rattle.dom_edge.specs.Memory.{IsPlanned, no_calls};
-ghost use Rattle.network_serving.specs.SpawnerStates.{Starts};
+ghost use Rattle.network_serving.specs.Bases.{base_in};
+ghost use Rattle.network_serving.specs.SpawnerStates.{Starts, bases_in};
 ghost use Rattle.network_serving.specs.Tasks.{duty_of};
 ghost use Rattle.network_serving.specs.declared.begun.Begun.TheVariants.{Failed};
 
 use crate::begun::Begun;
 use crate::duties::Duty;
+use crate::footing::Footing;
 use crate::tasks::Task;
 use dom_base::List;
-use dom_edge::{Listener, PlannedCalls, Sink, Source, Store};
+use dom_edge::{Listener, Noted, PlannedCalls, Sink, Source, Store};
 use std::alloc::Global;
 use std::marker::Model;
 use std::sync::Wait;
@@ -20,6 +22,7 @@ use std::time::Clock;
 pub struct MemorySpawner {
     alloc: Global,
     duties: List<Duty>,
+    footings: Noted<Footing>,
     calls: PlannedCalls,
 }
 
@@ -28,17 +31,18 @@ impl Model for MemorySpawner {
 
     ghost Value = { MemoryState };
 
-    ghost view = { λ s. record { duties = s.duties; calls = s.calls } };
+    ghost view = { λ s. record { duties = s.duties; footings = s.footings.items; calls = s.calls } };
 }
 
 impl MemorySpawner {
     /// Nothing is started yet. `fails` has the numbers, from 0, of the calls that are to fail.
     pub fn new(alloc: Global, fails: List<u64>) -> Self
-        ensures { result ≡ record { duties = []; calls = no_calls fails } }
+        ensures { result ≡ record { duties = []; footings = []; calls = no_calls fails } }
     {
         MemorySpawner {
             alloc,
             duties: List::new(alloc),
+            footings: Noted::new(),
             calls: PlannedCalls::new(fails),
         }
     }
@@ -58,7 +62,7 @@ impl MemorySpawner {
         I: Source + Drop,
         O: Sink + Drop,
         R: Wait + Clock + Drop,
-        ensures starts { Starts (duty_of K.opened_at task) result self.old.duties self.new.duties self.old.calls.faults self.new.calls.faults }
+        ensures starts { Starts (duty_of K.opened_at task) (base_in task) result self.old.duties self.new.duties (bases_in self.old.footings) (bases_in self.new.footings) self.old.calls.faults self.new.calls.faults }
         ensures planned { IsPlanned self.old.calls → result ≡ Failed }
     {
         if self.calls.is_planned() {
@@ -69,9 +73,10 @@ impl MemorySpawner {
         let Ok(duty) = task.duty(self.alloc) else {
             return Begun::NoMemory;
         };
-        match self.duties.push(duty) {
-            Ok(()) => Begun::Started,
-            Err(_) => Begun::NoMemory,
+        if self.duties.push(duty).is_err() {
+            return Begun::NoMemory;
         }
+        self.footings = self.footings.and(&task.footing());
+        Begun::Started
     }
 }

@@ -3,13 +3,13 @@ ghost use Rattle.std.specs.Prelude.{◌≡◌, ◌≤◌, ◌<◌, ◌^◌, ◌+
 ghost use Rattle.std.specs.List.{flat_map};
 ghost use Rattle.dom_edge.specs.Causes.{HasCause, next_count};
 ghost use Rattle.dom_edge.specs.Opening.{IsOpenedAt, IsOpenedFor};
-ghost use Rattle.network_serving.specs.Tasks.{IsNew, duty_of};
+ghost use Rattle.network_serving.specs.Tasks.{duty_of};
 ghost use Rattle.network_serving.specs.declared.duties.Duty.TheVariants.{Carry};
 ghost use Rattle.network_serving.specs.Duties.{both_ways, child_ways, first_duties, port_duties, ways_of, work_duties};
 ghost use Rattle.network_serving.specs.Ends.{RoseBy};
 ghost use Rattle.network_serving.specs.Ports.{dialled, heeded};
-ghost use Rattle.turn_desk.specs.Desks.{stand_of};
-ghost use Rattle.network_serving.specs.Starting.{Adds, IsClosed, IsPlanEnd, called, peer_ports};
+ghost use Rattle.turn_desk.specs.Desks.{split_from, stand_of};
+ghost use Rattle.network_serving.specs.Starting.{Adds, IsClosed, IsFresh, IsPlanEnd, IsPlanned, called, peer_ports};
 
 use crate::served::Served;
 use crate::tasks::Task;
@@ -72,7 +72,8 @@ pub(crate) fn desk_beside<R: Wait + Clock + Copy + Drop>(
     rt: R,
     desk: &mut TurnDesk<R>,
 ) -> Result<TurnDesk<R>, NoMemory>
-    ensures new { IfOk result (λ desk. (stand_of desk).own ≡ []) }
+    ensures stand { stand_of desk.new ≡ stand_of desk.old }
+    ensures ok { IfOk result (λ beside. stand_of beside ≡ split_from (stand_of desk.old)) }
 {
     match desk.split(rt) {
         Ok(desk) => Ok(desk),
@@ -110,13 +111,11 @@ pub(crate) fn open_port<Q: Ports>(ports: &mut Q, port: u16, comes: Comes) -> Res
 }
 
 // One task more.
-#[tactic(auto, using(crate::proofs::Plans::one_added))]
 fn push_task<K: Listener + Drop, F: Drop, I: Drop, O: Drop, R: Wait + Clock + Drop>(
     tasks: &mut Vec<Task<K, F, I, O, R>>,
     task: Task<K, F, I, O, R>,
 ) -> Result<(), NoMemory>
-    requires new { IsNew K.heeds K.dialled_to task }
-    ensures ok { OnOk result (Adds K.opened_at K.heeds K.dialled_to tasks.old.items tasks.new.items (duty_of K.opened_at task ∷ [])) }
+    ensures ok { OnOk result (tasks.new.items ≡ tasks.old.items ++ task ∷ []) }
 {
     match tasks.push(task) {
         Ok(()) => Ok(()),
@@ -141,7 +140,9 @@ fn add_ports<Q: Ports, F: Drop, I: Drop, O: Drop, R: Wait + Clock + Copy + Drop>
     tasks: &mut Vec<Task<Q::Port, F, I, O, R>>,
 ) -> Result<(), Served>
     requires few { length peers.now < 2 ^ 32 }
-    ensures ok { OnOk result (Adds Q.Port.opened_at Q.Port.heeds Q.Port.dialled_to tasks.old.items tasks.new.items (port_duties 0 peers.now)) }
+    requires fresh { IsFresh (stand_of desk.old) }
+    ensures stand { stand_of desk.new ≡ stand_of desk.old }
+    ensures ok { OnOk result (Adds Q.Port.opened_at Q.Port.heeds Q.Port.dialled_to (stand_of desk.old) tasks.old.items tasks.new.items (port_duties 0 peers.now)) }
     ensures calls { OnOk result (RoseBy (length peers.now) (Q.calls ports.old, Q.calls ports.new)) }
     ensures err { IfErr result (IsPlanEnd (peer_ports peers.now) (called (Q.calls ports.old, Q.calls ports.new) (Q.faults ports.old, Q.faults ports.new) (Q.failed_at ports.new))) }
     ensures later { Q.faults ports.old ≤ Q.faults ports.new }
@@ -170,7 +171,9 @@ fn add_workers<K: Listener + Drop, F: Drop, I: Drop, O: Drop, R: Wait + Clock + 
     workers: u32,
     tasks: &mut Vec<Task<K, F, I, O, R>>,
 ) -> Result<(), NoMemory>
-    ensures ok { OnOk result (Adds K.opened_at K.heeds K.dialled_to tasks.old.items tasks.new.items (work_duties 0 workers)) }
+    requires fresh { IsFresh (stand_of desk.old) }
+    ensures stand { stand_of desk.new ≡ stand_of desk.old }
+    ensures ok { OnOk result (Adds K.opened_at K.heeds K.dialled_to (stand_of desk.old) tasks.old.items tasks.new.items (work_duties 0 workers)) }
 {
     for index in 0..workers {
         let cache = Cache::new(alloc, CACHE_CAPACITY)?;
@@ -195,7 +198,9 @@ fn add_carrier<K: Listener + Drop, F: Drop, I: Drop, O: Drop, R: Wait + Clock + 
     parts: &NetworkParts,
     tasks: &mut Vec<Task<K, F, I, O, R>>,
 ) -> Result<(), NoMemory>
-    ensures ok { OnOk result (Adds K.opened_at K.heeds K.dialled_to tasks.old.items tasks.new.items (Carry (ways_of parts.now) ∷ [])) }
+    requires fresh { IsFresh (stand_of desk.old) }
+    ensures stand { stand_of desk.new ≡ stand_of desk.old }
+    ensures ok { OnOk result (Adds K.opened_at K.heeds K.dialled_to (stand_of desk.old) tasks.old.items tasks.new.items (Carry (ways_of parts.now) ∷ [])) }
 {
     let links = ways_of(alloc, parts)?;
     let desk = desk_beside(rt, desk)?;
@@ -211,7 +216,9 @@ pub(crate) fn plan_tasks<Q: Ports, F: Drop, I: Drop, O: Drop, R: Wait + Clock + 
     ports: &mut Q,
     network: &Network,
 ) -> Result<Vec<Task<Q::Port, F, I, O, R>>, Served>
-    ensures ok { IfOk result (λ tasks. (map (duty_of Q.Port.opened_at) tasks.items ≡ first_duties network.now) × All (IsNew Q.Port.heeds Q.Port.dialled_to) tasks.items) }
+    requires fresh { IsFresh (stand_of desk.old) }
+    ensures stand { stand_of desk.new ≡ stand_of desk.old }
+    ensures ok { IfOk result (λ tasks. (map (duty_of Q.Port.opened_at) tasks.items ≡ first_duties network.now) × All (IsPlanned Q.Port.heeds Q.Port.dialled_to (stand_of desk.old)) tasks.items) }
     ensures calls { OnOk result (RoseBy (length network.now.peers) (Q.calls ports.old, Q.calls ports.new)) }
     ensures err { IfErr result (IsPlanEnd (peer_ports network.now.peers) (called (Q.calls ports.old, Q.calls ports.new) (Q.faults ports.old, Q.faults ports.new) (Q.failed_at ports.new))) }
     ensures later { Q.faults ports.old ≤ Q.faults ports.new }

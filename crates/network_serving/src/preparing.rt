@@ -1,8 +1,11 @@
 //! All that comes before a port is listened at.
-ghost use Rattle.std.specs.Prelude.{◌≡◌, ◌≤◌, IfErr, IfOk, []};
+ghost use Rattle.std.specs.Prelude.{◌≡◌, ◌≤◌, IfErr, IfOk, OnOk, []};
+ghost use Rattle.turn_desk.specs.Desks.{stand_of};
 ghost use Rattle.network_files.specs.Settings.{HasNetwork};
 ghost use Rattle.server_loops.specs.Operating.{AreOfElements};
-ghost use Rattle.ted_watch.specs.Watch.{list_at, list_of, published};
+ghost use Rattle.ted_watch.specs.Watch.{known, list_at, list_of, published};
+ghost use Rattle.network_serving.specs.Bases.{IsReady, server};
+ghost use Rattle.network_serving.specs.Loading.{IsBehind, IsOpenEnd};
 ghost use Rattle.network_serving.specs.Files.{IsLoadEnd};
 ghost use Rattle.network_serving.specs.Ports.{AreApart};
 
@@ -40,23 +43,35 @@ fn desks_of(network: &Network) -> u32
         .saturating_add(3)
 }
 
-// A new network of these settings, under a lock with so many seats.
-#[tactic(auto, using(crate::proofs::Opening::begins))]
-fn open_network<R: Wait + Clock + Drop>(
+// A lock round a network of these settings, into which the topologies that they name were loaded, and each was shown.
+#[tactic(auto, using(crate::proofs::Causes::want_open, crate::proofs::Causes::topology_open, crate::proofs::Loads::opened_behind))]
+fn open_loaded<T: Store, R: Wait + Clock + Drop>(
     rt: R,
     alloc: Global,
+    store: &mut T,
     network: Network,
-    desks: u32,
-) -> Result<TurnDesk<R>, NoMemory>
-    requires { 1 ≤ desks }
+    own: &Network,
+    publisher: &mut Publisher<R>,
+) -> Result<TurnDesk<R>, Served>
+    requires same { network ≡ own.now }
+    requires unshown { published publisher.old ≡ [] }
+    ensures behind { IfOk result (λ desk. IsBehind (T.files store.old) own.now (stand_of desk) (published publisher.new)) }
+    ensures err { IfErr result (IsOpenEnd (T.files store.old) own.now (T.faults store.old, T.faults store.new) (T.failed_at store.new)) }
+    ensures elements { OnOk result (AreOfElements own.now (published publisher.new)) }
+    ensures list { list_of publisher.new ≡ list_of publisher.old }
 {
-    let plant = Plant::new(alloc, network)?;
-    TurnDesk::open(rt, alloc, plant, desks)
+    let desks = desks_of(own);
+    let mut plant = Plant::new(alloc, network)?;
+    load_all(alloc, store, &mut plant, own, publisher)?;
+    match TurnDesk::open(rt, alloc, plant, desks) {
+        Ok(desk) => Ok(desk),
+        Err(_) => Err(Served::NoMemory),
+    }
 }
 
 // A publisher that has shown nothing, and its watcher.
 fn open_board<R: Wait + Drop>(rt: R, alloc: Global) -> Result<(Publisher<R>, Watcher), NoMemory>
-    ensures { IfOk result (λ r. (published r.0 ≡ []) × (list_at r.1 ≡ list_of r.0)) }
+    ensures { IfOk result (λ r. (published r.0 ≡ []) × (known r.1 ≡ []) × (list_at r.1 ≡ list_of r.0)) }
 {
     let (publisher, watchers) = open_watch(rt, alloc, 1)?;
     let mut watchers = watchers.into_vec();
@@ -66,8 +81,9 @@ fn open_board<R: Wait + Drop>(rt: R, alloc: Global) -> Result<(Publisher<R>, Wat
     }
 }
 
-/// Loads the settings and the topologies that they name, and shows these. The watcher has learnt what was shown.
-#[tactic(auto, using(crate::proofs::Causes::settings_end, crate::proofs::Causes::port_end, crate::proofs::Causes::topologies_end, crate::proofs::Causes::want_end))]
+/// Loads the settings and the topologies that they name, and shows these. The watcher has learnt what was shown. Then it opens a lock
+/// round the network.
+#[tactic(auto, using(crate::proofs::Causes::settings_end, crate::proofs::Causes::port_end, crate::proofs::Causes::open_end, crate::proofs::Causes::want_end, crate::proofs::Loads::all_ready, crate::proofs::Loads::learnt_all))]
 pub(crate) fn prepare<T: Store, R: Wait + Clock + Copy + Drop>(
     rt: R,
     alloc: Global,
@@ -75,14 +91,14 @@ pub(crate) fn prepare<T: Store, R: Wait + Clock + Copy + Drop>(
     store: &mut T,
 ) -> Result<Prepared<R>, Served>
     ensures ok { IfOk result (λ p. HasNetwork (T.files store.old) name.now p.network × AreApart p.network × AreOfElements p.network (published p.publisher)) }
+    ensures ready { IfOk result (λ p. IsReady (T.files store.old) p.network (server (stand_of p.desk) (published p.publisher) (known p.watcher) (list_of p.publisher))) }
+    ensures list { IfOk result (λ p. list_at p.watcher ≡ list_of p.publisher) }
     ensures err { IfErr result (IsLoadEnd (T.files store.old) name.now (T.faults store.old, T.faults store.new) (T.failed_at store.new)) }
 {
     let (network, own) = load_settings(alloc, store, name)?;
     check_ports(alloc, name, &own)?;
-    let desks = desks_of(&own);
-    let mut desk = open_network(rt, alloc, network, desks)?;
     let (mut publisher, mut watcher) = open_board(rt, alloc)?;
-    load_all(alloc, store, &mut desk, &own, &mut publisher)?;
+    let desk = open_loaded(rt, alloc, store, network, &own, &mut publisher)?;
     watcher.learn(&publisher.tell());
     Ok(Prepared {
         network: own,

@@ -1,12 +1,14 @@
 //! A network is served.
-ghost use Rattle.std.specs.Prelude.{◌≡◌, ◌++◌, IfErr, OnOk, option_to_list};
+ghost use Rattle.std.specs.Prelude.{◌≡◌, ◌++◌, IfErr, IfOk, OnOk, option_to_list};
 ghost use Rattle.server_loops.specs.Operating.{AreOfElements};
-ghost use Rattle.ted_watch.specs.Watch.{published};
-ghost use Rattle.network_serving.specs.Spawners.{faults_of, started};
+ghost use Rattle.ted_watch.specs.Watch.{known, list_at, list_of, published};
+ghost use Rattle.turn_desk.specs.Desks.{stand_of};
+ghost use Rattle.network_serving.specs.Bases.{bases_of, server, watch_bases};
+ghost use Rattle.network_serving.specs.Spawners.{bases, faults_of, started};
 ghost use Rattle.network_serving.specs.Duties.{duties_of, watch_duties};
 ghost use Rattle.network_serving.specs.Ends.{Ends};
 ghost use Rattle.network_serving.specs.Ports.{ports_of};
-ghost use Rattle.network_serving.specs.Starting.{IsStartEnd, called};
+ghost use Rattle.network_serving.specs.Starting.{IsFresh, IsStartEnd, called};
 
 use crate::planning::{desk_beside, open_port, plan_tasks};
 use crate::preparing::{Prepared, prepare};
@@ -48,6 +50,7 @@ where
     R: Wait + Clock + Copy + Send + Drop + 'static,
     L: Sink,
     ensures ok { OnOk result (started spawner.new ≡ started spawner.old ++ watch_duties watch) }
+    ensures behind { OnOk result (bases spawner.new ≡ bases spawner.old ++ watch_bases (known watcher) (list_at watcher) watch) }
     ensures err { IfErr result (IsStartEnd (option_to_list watch) (called (Q.calls ports.old, Q.calls ports.new) (Q.faults ports.old, Q.faults ports.new) (Q.failed_at ports.new)) (faults_of spawner.old, faults_of spawner.new)) }
 {
     let Some(port) = watch else {
@@ -87,7 +90,11 @@ where
     R: Wait + Clock + Copy + Send + Drop + 'static,
     L: Sink,
     requires elements { AreOfElements prepared.network (published prepared.publisher) }
+    requires fresh { IsFresh (stand_of prepared.desk) }
+    requires list { list_at prepared.watcher ≡ list_of prepared.publisher }
     ensures ok { OnOk result (started spawner.new ≡ started spawner.old ++ duties_of prepared.network) }
+    ensures behind { OnOk result (bases spawner.new ≡ bases spawner.old ++ bases_of prepared.network (server (stand_of prepared.desk) (published prepared.publisher) (known prepared.watcher) (list_of prepared.publisher))) }
+    ensures stand { IfOk result (λ desk. stand_of desk ≡ stand_of prepared.desk) }
     ensures err { IfErr result (IsStartEnd (ports_of prepared.network) (called (Q.calls ports.old, Q.calls ports.new) (Q.faults ports.old, Q.faults ports.new) (Q.failed_at ports.new)) (faults_of spawner.old, faults_of spawner.new)) }
 {
     let Prepared {
@@ -121,7 +128,7 @@ where
 ///
 /// `files`, `input` and `out` are the operator's. What is said on `log` is a line for each task that was started, and `pce: ready`;
 /// `at` is what it calls the addresses at which it listens.
-#[tactic(auto, using(crate::proofs::Starts::load_ends, crate::proofs::Starts::start_ends))]
+#[tactic(auto, using(crate::proofs::Starts::load_ends, crate::proofs::Starts::start_ends, crate::proofs::Loads::ready_is_fresh))]
 pub fn serve<T, Q, S, C, F, I, O, R, L>(
     rt: R,
     alloc: Global,
@@ -149,7 +156,7 @@ where
     O: Sink + Send + Drop + 'static,
     R: Wait + Clock + Copy + Send + Drop + 'static,
     L: Sink,
-    ensures ends { Ends (record { files = T.files store.old; store_faults = (T.faults store.old, T.faults store.new); failed_at = T.failed_at store.new; port_calls = (Q.calls ports.old, Q.calls ports.new); port_faults = (Q.faults ports.old, Q.faults ports.new); failed_port = Q.failed_at ports.new; started = (started spawner.old, started spawner.new); spawner_faults = (faults_of spawner.old, faults_of spawner.new); readings = (C.readings clock.old, C.readings clock.new) }) name.now turns result }
+    ensures ends { Ends (record { files = T.files store.old; store_faults = (T.faults store.old, T.faults store.new); failed_at = T.failed_at store.new; port_calls = (Q.calls ports.old, Q.calls ports.new); port_faults = (Q.faults ports.old, Q.faults ports.new); failed_port = Q.failed_at ports.new; started = (started spawner.old, started spawner.new); bases = (bases spawner.old, bases spawner.new); spawner_faults = (faults_of spawner.old, faults_of spawner.new); readings = (C.readings clock.old, C.readings clock.new) }) name.now turns result }
 {
     let prepared = match prepare(rt, alloc, name, store) {
         Ok(prepared) => prepared,

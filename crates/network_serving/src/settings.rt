@@ -66,13 +66,14 @@ fn network_in(alloc: Global, name: &str, bytes: &[u8]) -> Result<Network, Served
 }
 
 /// The settings in a file, twice: a network takes one for itself.
-#[tactic(auto, using(crate::proofs::Causes::bad_text, crate::proofs::Causes::not_read))]
+#[tactic(auto, using(crate::proofs::Causes::bad_text, crate::proofs::Causes::not_read, crate::proofs::Loads::read_one))]
 pub(crate) fn load_settings<T: Store>(
     alloc: Global,
     store: &mut T,
     name: &str,
 ) -> Result<(Network, Network), Served>
     ensures ok { IfOk result (λ r. HasNetwork (T.files store.old) name.now r.0 × HasNetwork (T.files store.old) name.now r.1) }
+    ensures same { IfOk result (λ r. r.0 ≡ r.1) }
     ensures err { IfErr result (IsFileEnd (T.files store.old) name.now settings_max IsSettingsFault (T.faults store.old, T.faults store.new) (T.failed_at store.new)) }
     ensures files { T.files store.new ≡ T.files store.old }
     ensures later { T.faults store.old ≤ T.faults store.new }

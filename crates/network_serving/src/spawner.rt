@@ -1,5 +1,6 @@
 //! What starts tasks.
 ghost use Rattle.network_serving.specs.SpawnerStates.{Starts};
+ghost use Rattle.network_serving.specs.Bases.{base_in};
 ghost use Rattle.network_serving.specs.Tasks.{IsNew, duty_of};
 
 use crate::begun::Begun;
@@ -11,7 +12,7 @@ use std::sync::Wait;
 use std::thread::Threads;
 use std::time::Clock;
 
-/// Starts tasks: on threads, or in memory. It stands for the list of what it started.
+/// Starts tasks: on threads, or in memory. It stands for the list of what it started, and of what stands behind each.
 #[derive(Drop)]
 pub enum Spawner<T: Threads> {
     Memory(MemorySpawner),
@@ -19,7 +20,7 @@ pub enum Spawner<T: Threads> {
 }
 
 impl<T: Threads> Spawner<T> {
-    ghost use Rattle.network_serving.specs.Spawners.{faults_of, started};
+    ghost use Rattle.network_serving.specs.Spawners.{bases, faults_of, started};
 
     /// Starts a task: on a thread of its own, which ends with the process at the latest; or in memory, where it is not run.
     pub fn start<K, F, I, O, R>(&mut self, task: Task<K, F, I, O, R>) -> Begun
@@ -31,7 +32,7 @@ impl<T: Threads> Spawner<T> {
         O: Sink + Send + Drop + 'static,
         R: Wait + Clock + Send + Drop + 'static,
         requires new { IsNew K.heeds K.dialled_to task }
-        ensures starts { Starts (duty_of K.opened_at task) result (started self.old) (started self.new) (faults_of self.old) (faults_of self.new) }
+        ensures starts { Starts (duty_of K.opened_at task) (base_in task) result (started self.old) (started self.new) (bases self.old) (bases self.new) (faults_of self.old) (faults_of self.new) }
     {
         match self {
             Spawner::Memory(spawner) => spawner.start(task),

@@ -1,6 +1,7 @@
 //! Tasks are started, and told as they start.
 ghost use Rattle.std.specs.Prelude.{◌≡◌, ◌≤◌, ◌++◌, ◌∷◌, [], All, IfErr, OnOk, map};
-ghost use Rattle.network_serving.specs.Spawners.{faults_of, started};
+ghost use Rattle.network_serving.specs.Bases.{base_in};
+ghost use Rattle.network_serving.specs.Spawners.{bases, faults_of, started};
 ghost use Rattle.network_serving.specs.Tasks.{IsNew, duty_of};
 ghost use Rattle.network_serving.specs.Starting.{IsUnstarted};
 
@@ -37,6 +38,7 @@ where
     L: Sink,
     requires new { IsNew K.heeds K.dialled_to task }
     ensures ok { OnOk result (started spawner.new ≡ started spawner.old ++ duty_of K.opened_at task ∷ []) }
+    ensures behind { OnOk result (bases spawner.new ≡ bases spawner.old ++ base_in task ∷ []) }
     ensures err { IfErr result (IsUnstarted (faults_of spawner.old, faults_of spawner.new)) }
     ensures later { faults_of spawner.old ≤ faults_of spawner.new }
 {
@@ -72,6 +74,7 @@ where
     L: Sink,
     requires new { All (IsNew K.heeds K.dialled_to) tasks.items }
     ensures ok { OnOk result (started spawner.new ≡ started spawner.old ++ map (duty_of K.opened_at) tasks.items) }
+    ensures behind { OnOk result (bases spawner.new ≡ bases spawner.old ++ map base_in tasks.items) }
     ensures err { IfErr result (IsUnstarted (faults_of spawner.old, faults_of spawner.new)) }
     ensures later { faults_of spawner.old ≤ faults_of spawner.new }
 {

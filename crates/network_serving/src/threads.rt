@@ -1,12 +1,14 @@
 //! A spawner that starts threads.
 ghost use Rattle.std.specs.Prelude.{◌≡◌, []};
-ghost use Rattle.network_serving.specs.SpawnerStates.{Starts};
+ghost use Rattle.network_serving.specs.Bases.{base_in};
+ghost use Rattle.network_serving.specs.SpawnerStates.{Starts, bases_in};
 ghost use Rattle.network_serving.specs.Tasks.{IsNew, duty_of};
 
 use crate::begun::Begun;
 use crate::duties::Duty;
+use crate::footing::Footing;
 use crate::tasks::Task;
-use dom_edge::{Listener, Sink, Source, Store};
+use dom_edge::{Listener, Noted, Sink, Source, Store};
 use std::alloc::Global;
 use std::marker::Model;
 use std::sync::Wait;
@@ -22,6 +24,7 @@ pub struct ThreadSpawner<T: Threads> {
     rt: T,
     alloc: Global,
     duties: Vec<Duty>,
+    footings: Noted<Footing>,
     faults: u64,
 }
 
@@ -30,18 +33,19 @@ impl<T: Threads> Model for ThreadSpawner<T> {
 
     ghost Value = { ThreadState };
 
-    ghost view = { λ s. record { duties = s.duties.items; faults = s.faults } };
+    ghost view = { λ s. record { duties = s.duties.items; footings = s.footings.items; faults = s.faults } };
 }
 
 impl<T: Threads> ThreadSpawner<T> {
     /// Nothing is started yet.
     pub fn new(rt: T, alloc: Global) -> Self
-        ensures { result ≡ record { duties = []; faults = 0 } }
+        ensures { result ≡ record { duties = []; footings = []; faults = 0 } }
     {
         ThreadSpawner {
             rt,
             alloc,
             duties: Vec::new(alloc),
+            footings: Noted::new(),
             faults: 0,
         }
     }
@@ -56,7 +60,7 @@ impl<T: Threads> ThreadSpawner<T> {
         O: Sink + Send + Drop + 'static,
         R: Wait + Clock + Send + Drop + 'static,
         requires new { IsNew K.heeds K.dialled_to task }
-        ensures starts { Starts (duty_of K.opened_at task) result self.old.duties self.new.duties self.old.faults self.new.faults }
+        ensures starts { Starts (duty_of K.opened_at task) (base_in task) result self.old.duties self.new.duties (bases_in self.old.footings) (bases_in self.new.footings) self.old.faults self.new.faults }
     {
         let Ok(duty) = task.duty(self.alloc) else {
             return Begun::NoMemory;
@@ -64,8 +68,10 @@ impl<T: Threads> ThreadSpawner<T> {
         if self.duties.reserve(1).is_err() {
             return Begun::NoMemory;
         }
+        let footings = self.footings.and(&task.footing());
         if start_thread(&self.rt, self.alloc, task) {
             self.duties.push_reserved(duty);
+            self.footings = footings;
             Begun::Started
         } else {
             self.faults = self.faults.saturating_add(1);

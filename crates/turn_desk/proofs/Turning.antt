@@ -6,6 +6,7 @@ use Rattle.std.specs.List.{filter_map}
 use Rattle.std.proofs.lemmas.List.Elements.{filter_map-append}
 use Rattle.plant_network.specs.plant_model.Types.{As, NoMemory, Ask}
 use Rattle.te_links.specs.Rows.{Rows}
+use Rattle.atomic_table.specs.Seated.{TableId}
 use Rattle.plant_lock.specs.declared.view.View.{View}
 use Rattle.plant_lock.specs.History.{Admitted, Legal, entries_at, replay}
 use Rattle.plant_lock.specs.Views.{Adds, LegalFrom}
@@ -51,13 +52,15 @@ own_load e is = tt
 -- ---- a turn of the seat
 
 -- what a turn makes of what a seat knows
-pub seat_makes : (v w : View Held Act ActAnswer) (own owned : List (Act × ActAnswer)) (spent : Option ℕ) (act : Act) (n : ℕ) (turn : ActAnswer) → spent ≡ None → Adds whole Admits Allowed left_by v act n turn w → owned ≡ own ++ (act, turn) ∷ [] →
-    Makes (record { start = v.start; seen = v.seen; own = own; met = v.met; spent = spent }) (record { start = w.start; seen = w.seen; own = owned; met = w.met; spent = spent }) act turn
-seat_makes v w own owned spent act n turn none adds is = record {
+pub seat_makes : (lock at : TableId) (v w : View Held Act ActAnswer) (own owned : List (Act × ActAnswer)) (spent : Option ℕ) (act : Act) (n : ℕ) (turn : ActAnswer) → at ≡ lock → spent ≡ None → Adds whole Admits Allowed left_by v act n turn w →
+    owned ≡ own ++ (act, turn) ∷ [] →
+    Makes (record { lock = lock; start = v.start; seen = v.seen; own = own; met = v.met; spent = spent }) (record { lock = at; start = w.start; seen = w.seen; own = owned; met = w.met; spent = spent }) act turn
+seat_makes lock at v w own owned spent act n turn here none adds is = record {
   before = v.seen ++ adds.between;
   begins = (adds.between, refl);
   seen = adds.grown;
   own = is;
+  lock = here;
   start = adds.same_start;
   legal = adds.legal;
   spent = (none, none);

@@ -1,6 +1,7 @@
 -- A desk at the lock of a network: the calls that its seat's own entries are, and what one call leaves.
 use Rattle.std.specs.Prelude.{◌≡◌, ◌^◌, ◌≤◌, ℕ, List, [], ◌∷◌, ◌++◌, Option, Some, None, Result, Ok, Err}
 use Rattle.std.specs.List.{filter_map}
+use Rattle.atomic_table.specs.Seated.{TableId}
 use Rattle.plant_lock.specs.declared.seat.TurnSeat.{TurnSeat}
 use Rattle.plant_lock.specs.declared.turned.Turned.{Ghosts}
 use Rattle.plant_lock.specs.History.{StartsWith}
@@ -30,9 +31,10 @@ use Rattle.turn_desk.specs.declared.desk.TurnDesk.{TurnDesk}
 
 -- ---- what a desk stands for
 
--- what the network was at the opening of its lock, what the desk has seen of the history, its own entries, the ticket word that it
--- last met, and at which number it was spent
+-- at which lock the desk is, what the network was at the opening of that lock, what the desk has seen of the history, its own entries,
+-- the ticket word that it last met, and at which number it was spent
 pub record Stand : Type 0 where
+  pub lock : TableId
   pub start : Option Held
   pub seen : List (Act × ActAnswer)
   pub own : List (Act × ActAnswer)
@@ -41,7 +43,7 @@ pub record Stand : Type 0 where
 
 -- of a seat, and of a desk that was spent at this number
 abbrev pub stand_at : {g : Ghosts Held Act ActAnswer} → TurnSeat Held Act ActAnswer g → Option ℕ → Stand
-stand_at {g} seat spent = record { start = (view_of seat).start; seen = seen_by seat; own = own_entries seat; met = met_by seat; spent = spent }
+stand_at {g} seat spent = record { lock = seat.seat.table_id; start = (view_of seat).start; seen = seen_by seat; own = own_entries seat; met = met_by seat; spent = spent }
 
 abbrev pub stand_of : {R : Type 0} → TurnDesk R → Stand
 stand_of {R} d = stand_at d.seat d.spent_at
@@ -50,10 +52,14 @@ abbrev pub shares_at : {R : Type 0} → TurnDesk R → ℕ
 shares_at {R} d = shares_of d.seat
 
 -- the first desk at a new lock
-abbrev pub opened_by : Held → Stand
-opened_by h = record { start = Some h; seen = []; own = []; met = 0; spent = None }
+abbrev pub opened_by : TableId → Held → Stand
+opened_by lock h = record { lock = lock; start = Some h; seen = []; own = []; met = 0; spent = None }
 
--- a further desk: it has made no turn
+-- a lock was opened round that network, and the desk knows of no turn at it
+abbrev pub IsOpened : Held → Stand → Type 0
+IsOpened h s = s ≡ opened_by s.lock h
+
+-- a further desk at the same lock: it has made no turn
 abbrev pub split_from : Stand → Stand
 split_from s = record s { own = []; spent = None }
 
@@ -101,6 +107,7 @@ pub record Makes (old new : Stand) (act : Act) (turn : ActAnswer) : Type 0 where
   pub begins : StartsWith before old.seen
   pub seen : new.seen ≡ before ++ (act, turn) ∷ []
   pub own : new.own ≡ old.own ++ (act, turn) ∷ []
+  pub lock : new.lock ≡ old.lock
   pub start : new.start ≡ old.start
   pub legal : LegalFrom whole Admits Allowed left_by new.start new.seen
   pub spent : (old.spent ≡ None) × (new.spent ≡ None)
@@ -109,6 +116,7 @@ pub record Makes (old new : Stand) (act : Act) (turn : ActAnswer) : Type 0 where
 pub record Rests (old new : Stand) (number : ℕ) : Type 0 where
   pub seen : new.seen ≡ old.seen
   pub own : new.own ≡ old.own
+  pub lock : new.lock ≡ old.lock
   pub start : new.start ≡ old.start
   pub spent : new.spent ≡ Some number
   pub stays : (t : ℕ) → old.spent ≡ Some t → t ≡ number

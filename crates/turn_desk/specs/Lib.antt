@@ -1,6 +1,7 @@
 -- for readers
 pub mod Histories
 pub mod Desks
+pub mod Standings
 pub mod Charts
 pub mod Works
 pub mod WorkBenches

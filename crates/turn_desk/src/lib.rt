@@ -14,10 +14,12 @@ mod finding;
 mod guide;
 mod notes;
 mod rounds;
+mod standing;
 mod turns;
 mod workbench;
 mod working;
 
 pub use desk::TurnDesk;
 pub use notes::Note;
+pub use standing::Standing;
 pub use workbench::WorkBench;

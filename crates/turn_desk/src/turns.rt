@@ -3,7 +3,7 @@ ghost use Rattle.std.specs.Prelude.{◌≡◌, ◌-◌, ◌<◌, IfErr, IfOk, On
 ghost use Rattle.std.specs.Arc.{arc_value};
 ghost use Rattle.plant_lock.specs.Seats.{IsAt, MayDo, shares_of, view_of};
 ghost use Rattle.plant_lock.specs.declared.turnstile.SplitError.TheVariants.{NoSeat};
-ghost use Rattle.turn_desk.specs.Desks.{IsTurn, opened_by, shares_at, split_from, stand_at, stand_of};
+ghost use Rattle.turn_desk.specs.Desks.{IsOpened, IsTurn, shares_at, split_from, stand_at, stand_of};
 ghost use Rattle.turn_desk.specs.Histories.{Begins, NoneIsPending};
 ghost use Rattle.plant_network.specs.Topologies.{whole};
 
@@ -95,7 +95,7 @@ impl<R: Wait + Clock + Drop> TurnDesk<R> {
     pub fn open(rt: R, alloc: Global, plant: Plant, seats: u32) -> Result<Self, NoMemory>
         requires seats { 0 < seats }
         requires begun { NoneIsPending (whole plant).state }
-        ensures stand { IfOk result (λ desk. stand_of desk ≡ opened_by plant) }
+        ensures stand { IfOk result (λ desk. IsOpened plant (stand_of desk)) }
         ensures shares { IfOk result (λ desk. shares_at desk ≡ seats) }
     {
         let bells = Arc::new(alloc, Bells::new(alloc)?)?;

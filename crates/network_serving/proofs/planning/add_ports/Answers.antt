@@ -1,8 +1,9 @@
-use Rattle.std.proofs.Common.{rules, ◌≡◌, ℕ, get_or, refl, arith, Some}
+use Rattle.std.proofs.Common.{rules, ◌≡◌, ◌∙◌, ℕ, get_or, refl, arith, Some}
 use Rattle.std.specs.Prelude.{slice_get}
 use Rattle.plant_text.specs.declared.settings.PeerRow.{PeerRow}
+use Rattle.turn_desk.specs.Desks.{stand_of}
 use Rattle.network_serving.specs.Starting.{IsPlanEnd, called, peer_ports}
-use Rattle.network_serving.proofs.Plans.{port_added, port_at, rose_more}
+use Rattle.network_serving.proofs.Plans.{beside, one_added, port_added, port_at, rose_more}
 use Rattle.network_serving.proofs.Starts.{plan_end}
 use Rattle.network_serving.proofs.planning.add_ports.Goals as goal
 
@@ -32,9 +33,13 @@ loop-peer-preserved g c =
     let is : row ≡ get_or rows k row = c.index-peers-peer.is in
     let port : ℕ = g.Q.Port.Listener.opened_at c.in_ok-listener.listener in
     let same : port ≡ row.port = c.in_ok-listener.ensures.ok in
+    let s = stand_of c.args.desk.now in
     record {
-      adds = port_added g.Q.Port.Listener.opened_at g.Q.Port.Listener.heeds g.Q.Port.Listener.dialled_to rows k row port row.comes c.args.tasks.now.items c.loop-peer.tasks.items c.push_task.new.tasks.items c.loop-peer-test.true is same refl c.loop-peer.invariant.adds
-          c.in_ok-push_task.ensures.ok;
+      stand = c.in_ok-desk.ensures.stand ∙ c.loop-peer.invariant.stand;
+      adds = port_added g.Q.Port.Listener.opened_at g.Q.Port.Listener.heeds g.Q.Port.Listener.dialled_to s rows k row port row.comes c.args.tasks.now.items c.loop-peer.tasks.items c.push_task.new.tasks.items c.loop-peer-test.true is same refl
+          c.loop-peer.invariant.adds
+          (one_added g.Q.Port.Listener.opened_at g.Q.Port.Listener.heeds g.Q.Port.Listener.dialled_to s c.loop-peer.tasks.items _ c.push_task.new.tasks.items
+          (c.in_ok-listener.ensures.heeds, beside (stand_of c.in_ok-desk.desk) (stand_of c.loop-peer.desk) s c.in_ok-desk.ensures.ok c.loop-peer.invariant.stand c.requires.fresh) c.in_ok-push_task.ensures.ok);
       calls = rose_more k (g.Q.Ports.calls c.args.ports.now) (g.Q.Ports.calls c.loop-peer.ports) (g.Q.Ports.calls c.open_port.new.ports) c.loop-peer.invariant.calls c.in_ok-listener.ensures.called;
       later = omega (arith, c.loop-peer.invariant.later, c.in_ok-listener.ensures.later);
     }

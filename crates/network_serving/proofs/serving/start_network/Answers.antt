@@ -1,13 +1,18 @@
-use Rattle.std.proofs.Common.{rules, ◌≡◌, ◌∙◌, ◌++◌, ℕ, List, Option, ap, arith}
+use Rattle.std.proofs.Common.{rules, ◌≡◌, ◌∙◌, ◌++◌, ◌∷◌, [], ℕ, List, Option, map, ap, arith}
+use Rattle.logbook.specs.Pages.{Book}
+use Rattle.ted_watch.specs.Watch.{known, list_at, list_of, published}
+use Rattle.turn_desk.specs.Desks.{Stand, split_from, stand_of}
 use Rattle.plant_text.specs.declared.settings.NetworkParts.{NetworkParts}
-use Rattle.network_serving.specs.Spawners.{faults_of, started}
+use Rattle.network_serving.specs.Bases.{Base, Desk, Operator, Server, base_in, server, watch_bases}
+use Rattle.network_serving.specs.Spawners.{bases, faults_of, started}
 use Rattle.network_serving.specs.declared.duties.Duty.{Duty}
-use Rattle.network_serving.specs.Duties.{watch_duties}
+use Rattle.network_serving.specs.Duties.{first_duties, watch_duties}
+use Rattle.network_serving.proofs.Plans.{planned_bases}
 use Rattle.network_serving.specs.Ports.{ports_of}
 use Rattle.network_serving.specs.Starting.{Called, IsStartEnd, called}
 use Rattle.network_serving.specs.declared.served.Served.{Served}
 use Rattle.network_serving.specs.declared.served.Served.TheVariants as served
-use Rattle.network_serving.proofs.Starts.{duties_on, unstarted_end, unstarted_from, want_start, watch_end}
+use Rattle.network_serving.proofs.Starts.{bases_on, duties_on, unstarted_end, unstarted_from, want_start, watch_end}
 use Rattle.network_serving.proofs.serving.start_network.Goals as goal
 
 pub returns-in_err-start_all-clause-err : goal.returns-in_err-start_all-clause-err
@@ -63,3 +68,20 @@ returns-in_err-start_watch-clause-err g c =
     (faults_of c.args.spawner.now) (faults_of c.start.new.spawner) (faults_of c.start_watch.new.spawner) c.in_err-start_watch.field-0.0 is c.in_ok-tasks.ensures.calls c.in_ok-tasks.ensures.later
     (omega (arith, c.in_ok-start_all.ensures.later, c.in_ok-start.ensures.later)) c.in_err-start_watch.ensures.err in
     search (rules, end)
+
+pub returns-clause-behind : goal.returns-clause-behind
+returns-clause-behind g c =
+    let n : NetworkParts = c.args.prepared.network in
+    let x : Server = server (stand_of c.args.prepared.desk) (published c.args.prepared.publisher) (known c.args.prepared.watcher) (list_of c.args.prepared.publisher) in
+    let old : List Base = bases c.args.spawner.now in
+    let all : List Base = bases c.start_all.new.spawner in
+    let later : List Base = bases c.start.new.spawner in
+    let last : List Base = bases c.start_watch.new.spawner in
+    let tasks = c.in_ok-tasks.tasks.items in
+    let is : c.parts-2.result.now.watch ≡ n.watch = ap (λ (m : NetworkParts). m.watch) c.parts-2.ensures.parts in
+    let first : map base_in tasks ≡ map (λ (d : Duty). Desk x.desk) (first_duties n) =
+    planned_bases g.Q.Port.Listener.opened_at g.Q.Port.Listener.heeds g.Q.Port.Listener.dialled_to x.desk tasks c.in_ok-tasks.ensures.ok.1 ∙ ap (map (λ (d : Duty). Desk x.desk)) c.in_ok-tasks.ensures.ok.0 in
+    let stands : stand_of c.in_ok-beside.beside ≡ x.desk = c.in_ok-beside.ensures.ok ∙ ap split_from c.in_ok-tasks.ensures.stand ∙ c.requires.fresh in
+    bases_on n x old all later last (c.in_ok-start_all.ensures.behind ∙ ap (λ (bs : List Base). old ++ bs) first)
+    (c.in_ok-start.ensures.behind ∙ ap (λ (s : Stand). all ++ Operator s n x.shown x.list ∷ []) stands)
+    (c.in_ok-start_watch.ensures.behind ∙ ap (λ (w : Option ℕ). later ++ watch_bases x.known (list_at c.args.prepared.watcher) w) is ∙ ap (λ (l : Book). later ++ watch_bases x.known l n.watch) c.requires.list)

@@ -1,0 +1,41 @@
+//! Where a desk stands, for clauses alone.
+ghost use Rattle.std.specs.Prelude.{◌≡◌};
+ghost use Rattle.turn_desk.specs.Desks.{stand_of};
+ghost use Rattle.turn_desk.specs.Standings.{stood};
+ghost use Rattle.turn_desk.specs.WorkBenches.{desk_of};
+
+use crate::desk::TurnDesk;
+use crate::workbench::WorkBench;
+use plant_lock::TurnSeat;
+use plant_network::Plant;
+use std::snapshot::Snapshot;
+use std::sync::Wait;
+use std::time::Clock;
+
+/// Where a desk stood at a moment: clauses alone read it.
+#[derive(Drop)]
+pub struct Standing {
+    seat: Snapshot<TurnSeat<Plant>>,
+    spent_at: Option<u64>,
+}
+
+impl<R: Wait + Clock> TurnDesk<R> {
+    /// Where it stands.
+    pub fn standing(&self) -> Standing
+        ensures { stood result ≡ stand_of self.now }
+    {
+        Standing {
+            seat: Snapshot::of(&self.seat),
+            spent_at: self.spent_at,
+        }
+    }
+}
+
+impl<R: Wait + Clock> WorkBench<R> {
+    /// Where the desk behind it stands.
+    pub fn standing(&self) -> Standing
+        ensures { stood result ≡ desk_of self.now }
+    {
+        self.desk.standing()
+    }
+}
