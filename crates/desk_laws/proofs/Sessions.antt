@@ -1,5 +1,5 @@
 -- A session is an Open, calls that drain its peer or leave the connections, and at its end calls that hand out nothing.
-use Rattle.std.proofs.Common.{◌≡◌, ◌∙◌, ◌⊎◌, inl, inr, ◌<◌, ℕ, Bool, length, List, [], ◌∷◌, ◌++◌, append-nil, append_assoc, Ok, Err, ap, refl, sym, subst}
+use Rattle.std.proofs.Common.{◌≡◌, ◌∙◌, ◌⊎◌, inl, inr, ◌<◌, ℕ, Bool, length, List, [], ◌∷◌, ◌++◌, append_assoc, Ok, ap, refl, sym, subst}
 use Rattle.std.specs.List.{AllByRecursion}
 use Rattle.dom_edge.specs.Heeding.{Sides}
 use Rattle.dom_edge.specs.Streams.{Writing}

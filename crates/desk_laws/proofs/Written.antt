@@ -2,7 +2,6 @@
 use Rattle.std.proofs.Common.{◌≡◌, ◌∙◌, ◌⊎◌, inl, inr, ℕ, List, [], ◌∷◌, ◌++◌, append-nil, append_assoc, drop, map, take, option_map, Option, Some, None, Ok, ap, refl, sym, subst}
 use Rattle.std.specs.Io.KnownBytes.{Appends}
 use Rattle.std.proofs.lemmas.List.{append_cancel_left, map-append, take-append-drop}
-use Rattle.dom_edge.specs.Heeding.{Sides}
 use Rattle.dom_edge.specs.Streams.{Writing}
 use Rattle.dom_edge.specs.Whole.{AppendsSome}
 use Rattle.pcep_framing.specs.Frames as frames
@@ -14,12 +13,12 @@ use Rattle.plant_network.specs.plant_model.RealWire.{wire}
 use Rattle.plant_network.specs.plant_model.State.{Connection}
 use Rattle.plant_network.specs.plant_model.Types.{NetworkParts}
 use Rattle.plant_network.specs.Histories.{done_by, events_of}
-use Rattle.run_laws.specs.Outlets.{AreOne, Outlet, Stands, bytes_of, outlet}
+use Rattle.run_laws.specs.Outlets.{AreOne, Outlet, bytes_of, outlet}
 use Rattle.run_laws.proofs.PeerLemmas.Answering.{answers_are_right}
 use Rattle.run_laws.proofs.PeerLemmas.OutletRuns.{outlets_stand}
 use Rattle.run_laws.proofs.PeerLemmas.Reading.{handed_is_read}
 use Rattle.server_loops.specs.Desks.{Call, call}
-use Rattle.server_loops.specs.Sessions.{OverLink, Writes, drained}
+use Rattle.server_loops.specs.Sessions.{Writes, drained}
 use Rattle.server_loops.specs.declared.sessions.Ended.{Ended}
 use Rattle.server_loops.specs.declared.sessions.Ended.TheVariants.{Closed, Lost, NoMemory, NotOpened, PeerEnd, ReadFault, Spent, Turns, WriteFault}
 use Rattle.turn_desk.specs.Desks.{Stand, desked_of}

@@ -1,6 +1,5 @@
 use Rattle.std.proofs.Common.{◌≡◌, ◌∙◌, ap, refl, sym}
 use Rattle.std.specs.Arc.{arc_value}
-use Rattle.atomic_table.specs.Seated.{TableId}
 use Rattle.plant_lock.specs.Seats.{own_entries, view_of}
 use Rattle.turn_desk.proofs.Turning.{seat_makes}
 use Rattle.turn_desk.proofs.desk.TurnDesk.turn.Goals as goal
