@@ -4,6 +4,7 @@ import ctypes
 import os
 import queue
 import random
+import resource
 import signal
 import socket
 import subprocess
@@ -79,13 +80,15 @@ class Lines:
 
 
 class Server:
-    """A running `serve`, which listens at this address. Its settings and their files stand in a folder of its own."""
+    """A running `serve`, which listens at this address. Its settings and their files stand in a folder of its own. Where it is `unread` nobody has
+    the other end of its standard output; where `room` is given, it has that many kB of addresses."""
 
-    def __init__(self, program, settings, files=(), given=subprocess.PIPE, within=30, host=HOST):
+    def __init__(self, program, settings, files=(), given=subprocess.PIPE, within=30, host=HOST, unread=False, room=None):
         self.folder = tempfile.TemporaryDirectory()
         for name, text in [("net.toml", settings), *files]:
             self.put(name, text)
         self.program, self.given, self.within, self.host = program, given, within, host
+        self.unread, self.room = unread, room
         self.process = None
         self.start()
 
@@ -93,11 +96,21 @@ class Server:
         with open(os.path.join(self.folder.name, name), "w") as file:
             file.write(text)
 
+    def begins(self):
+        """In the new process, before the program."""
+        bound_to_parent()
+        if self.room:
+            resource.setrlimit(resource.RLIMIT_AS, (1024 * self.room, 1024 * self.room))
+
     def start(self):
         """Starts, and waits until it is ready."""
         self.process = subprocess.Popen([self.program, "serve", os.path.join(self.folder.name, "net.toml")], stdin=self.given, stdout=subprocess.PIPE,
-                                        stderr=subprocess.PIPE, env=listen_address(self.host), preexec_fn=bound_to_parent)
-        self.out, self.told = Lines(self.process.stdout), Lines(self.process.stderr)
+                                        stderr=subprocess.PIPE, env=listen_address(self.host), preexec_fn=self.begins)
+        self.told = Lines(self.process.stderr)
+        if self.unread:
+            self.process.stdout.close()
+        else:
+            self.out = Lines(self.process.stdout)
         until = time.monotonic() + self.within
         while (line := self.told.next(until - time.monotonic() if until > time.monotonic() else 0)) != "pce: ready":
             if line is None:
@@ -140,6 +153,11 @@ class Server:
         """The most memory that it had, in megabytes (VmHWM)."""
         with open("/proc/%d/status" % self.process.pid) as file:
             return next(int(line.split()[1]) for line in file if line.startswith("VmHWM")) / 1024
+
+    def leave_descriptors(self, more):
+        """From now on it has no more descriptors than those that it has opened and so many."""
+        most = 1 + max(map(int, os.listdir("/proc/%d/fd" % self.process.pid))) + more
+        resource.prlimit(self.process.pid, resource.RLIMIT_NOFILE, (most, most))
 
     def threads(self):
         """Of each thread the processor seconds so far, and how often it went to sleep."""

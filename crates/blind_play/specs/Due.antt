@@ -1,4 +1,4 @@
--- What is due in a network without topologies, and events that are due one after the other.
+-- The events that are due in a network without topologies when none comes from outside, one after the other.
 use Rattle.std.specs.Prelude.{◌≡◌, ℕ, true, List, [], ◌∷◌, Option, Some, None}
 use Rattle.plant_network.specs.plant_model.Types.{NetworkParts}
 use Rattle.plant_network.specs.plant_model.declared.event.BlindEvent.{BlindEvent}

@@ -1,4 +1,4 @@
--- What is told of lines that are played is what the network without topologies says.
+-- The transcript of lines that are played is what the network without topologies says.
 use Rattle.std.specs.Prelude.{◌≡◌, ℕ, Bool, List, [], ◌∷◌, ◌++◌, All}
 use Rattle.plant_network.specs.plant_model.Types.{NetworkParts}
 use Rattle.run_laws.specs.Given.{IsBlindLine}

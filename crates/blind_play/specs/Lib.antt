@@ -7,6 +7,6 @@ pub mod WholeScripts
 pub mod Laws
 -- inner
 pub mod Making
--- handed on from below
+-- re-exported from below
 pub use Rattle.plant_network.specs.plant_model
 pub use Rattle.run_laws.specs as run_laws

@@ -14,7 +14,7 @@ use Rattle.transcript.specs.Lines.{answer_line}
 use Rattle.blind_play.specs.Due.{AreDue}
 use Rattle.blind_play.specs.Turns.{IsTurn, Turn, heard_text, turn_text, turns_text}
 
--- an event is done, and was not refused for want of memory
+-- an event is done, and memory did not run out
 pub record Makes (old : Whole) (e : BlindEvent) (answer : Answered) (new : Whole) : Type 0 where
   pub network : new.network ≡ old.network
   pub deeds : List (Deed Nothing)
@@ -35,7 +35,7 @@ abbrev pub IsGivenIfAny : Option BlindEvent → Type 0
 IsGivenIfAny None = Unit {0}
 IsGivenIfAny (Some e) = IsBlindGiven e
 
--- ---- what is told of it
+-- ---- its transcript
 
 -- the outside peer that drains
 abbrev pub drainer_of : BlindEvent → Option ℕ
@@ -68,7 +68,7 @@ pub record MakesTurn (line : ℕ) (old : Whole) (e : BlindEvent) (accepted : Boo
   pub ends : new.state ≡ turn.after
   pub tells : after ≡ before ++ turn_text line old.network turn
 
--- events are done, and their text is put behind what stands there
+-- events are done, and their text is appended
 pub record Does (line : ℕ) (Line : NetworkParts → BlindState → List Turn → BlindState → Type 0) (old new : Whole) (before after : List ℕ) : Type 0 where
   pub network : new.network ≡ old.network
   pub turns : List Turn

@@ -1,4 +1,4 @@
--- What a line of a script does to a network without topologies, event by event, and what is told of it.
+-- What a line of a script does to a network without topologies, event by event, and its transcript.
 use Rattle.std.specs.Prelude.{◌≡◌, ℕ, cond, List, [], ◌∷◌, Option, Some, None, option_map}
 use Rattle.plant_network.specs.plant_model.Types.{LineEvent, NetworkParts}
 use Rattle.plant_text.specs.declared.line.LineEvent.TheVariants as line
@@ -46,7 +46,7 @@ pub record PlaysFeed (peer : ℕ) (bytes : Bytes) (n : NetworkParts) (old : Blin
   pub is_turn : IsTurn n old fed
   pub takes : cond (is_accepted fed.answer) (AreAllDue (IsDueTake peer) n fed.after taken end) ((taken ≡ []) × (end ≡ fed.after))
 
--- the event of a peer that a line names; a name that the settings lack is no peer
+-- the event of a peer that a line names; a name that the settings do not have is no peer
 abbrev pub PlaysNamed : Option BlindEvent → NetworkParts → BlindState → List Turn → BlindState → Type 0
 PlaysNamed None = PlaysNone
 PlaysNamed (Some e) = PlaysOne e
@@ -78,7 +78,7 @@ pub record Cue : Type 0 where
 abbrev pub cue : ℕ → LineEvent → Cue
 cue number e = record { number = number; event = e }
 
--- The line is played: its events, and what is told of them.
+-- The line is played: its events, and their transcript.
 pub record PlaysLine (old : PlayedNetwork) (c : Cue) (turns : List Turn) (told : List ℕ) (new : PlayedNetwork) : Type 0 where
   pub network : new.network ≡ old.network
   pub plays : Plays c.event old.network old.state turns new.state

@@ -1,4 +1,4 @@
--- An event of a line that is played on a network without topologies: what it was, what came of it, and what is told.
+-- An event of a line that is played on a network without topologies: the event, its answer, and its transcript.
 use Rattle.std.specs.Prelude.{ℕ, Bool, false, List, [], ◌∷◌, Ok}
 use Rattle.std.specs.List.{flat_map}
 use Rattle.plant_text.specs.Sents.{sent_line}
@@ -11,7 +11,7 @@ use Rattle.plant_network.specs.plant_model.RealWire.{wire}
 use Rattle.plant_network.specs.plant_model.State.{Deed}
 use Rattle.transcript.specs.Lines.{answer_line, name_of}
 
--- an event, its answer, its deeds, of which the newest is first, and the state that it leaves
+-- an event, its answer, its deeds (the newest first), and the state that it leaves
 pub record Turn : Type 0 where
   pub event : BlindEvent
   pub answer : Answered
@@ -34,9 +34,9 @@ trace_of (t ∷ ts) older = trace_of ts (t.event ∷ older)
 abbrev pub all_heard : NetworkParts → List Turn → List Heard
 all_heard n ts = flat_map (λ t. heard wire n t.deeds) ts
 
--- ---- what is told
+-- ---- the transcript
 
--- whether a session is over that drains
+-- whether the session of the peer that drains is over
 abbrev pub is_ended : Answered → Bool
 is_ended (Ok (outcome.Drained bytes ended)) = ended
 is_ended answer = false

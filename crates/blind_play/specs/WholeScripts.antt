@@ -38,14 +38,14 @@ pub record Playing (n : NetworkParts) (lines : List NumberedLine) (turns : List 
 
 -- ---- why a script stops
 
--- Why a line has no event: it is too long, or outside the form; want of memory says nothing.
+-- Why a line has no event: it is too long, or outside the form; "out of memory" says nothing.
 abbrev pub IsNoEvent : NetworkParts → NumberedLine → Stop → Type 0
 IsNoEvent n l (stop.BadLine number) = (number ≡ l.number) × (blind_line_in n l.text ≡ None)
 IsNoEvent n l (stop.TooLarge name) = (name ≡ input_name) × (line_most < length l.text)
 IsNoEvent n l stop.NoMemory = Unit {0}
 IsNoEvent n l why = ⊥
 
--- The lines of a script before the others are played, and what is told of them is written so.
+-- The lines of a script before the others are played, and their transcript is written so.
 pub record Reached (n : NetworkParts) (script : List ℕ) (Wrote : List ℕ → Type 0) (others : List NumberedLine) (end : PlayedNetwork) : Type 0 where
   pub done : List NumberedLine
   pub parts : told_lines script ≡ done ++ others
@@ -54,23 +54,23 @@ pub record Reached (n : NetworkParts) (script : List ℕ) (Wrote : List ℕ → 
   pub playing : Playing n done turns told end
   pub wrote : Wrote told
 
--- all that is told is written; what was written is told before and after, where it is
+-- the whole transcript is written; the pair is what was written before and after, where that is known
 abbrev pub WroteAll : Option (List ℕ) × Option (List ℕ) → List ℕ → Type 0
 WroteAll written told = Appends written.0 written.1 told
 
--- a first part of what is told is written
+-- a first part of the transcript is written
 abbrev pub WroteSome : Option (List ℕ) × Option (List ℕ) → List ℕ → Type 0
 WroteSome written told = AppendsSome written.0 written.1 told
 
--- all lines are played, and all that is told of them is written
+-- all lines are played, and their whole transcript is written
 abbrev pub IsWhole : Option (List ℕ) × Option (List ℕ) → NetworkParts → List ℕ → Type 0
 IsWhole written n script = (end : PlayedNetwork) × Reached n script (WroteAll written) [] end
 
--- some first lines are played, and a first part of what is told of them is written
+-- some first lines are played, and a first part of their transcript is written
 abbrev pub IsCut : Option (List ℕ) × Option (List ℕ) → NetworkParts → List ℕ → Type 0
 IsCut written n script = (others : List NumberedLine) × ((end : PlayedNetwork) × Reached n script (WroteSome written) others end)
 
--- The lines before one are played, all that is told of them is written, and that line is why the script stops.
+-- The lines before one are played, their whole transcript is written, and that line is why the script stops.
 pub record StopsAt (written : Option (List ℕ) × Option (List ℕ)) (n : NetworkParts) (script : List ℕ) (why : Stop) : Type 0 where
   pub line : NumberedLine
   pub others : List NumberedLine
@@ -78,7 +78,7 @@ pub record StopsAt (written : Option (List ℕ) × Option (List ℕ)) (n : Netwo
   pub reached : Reached n script (WroteAll written) (line ∷ others) end
   pub stops : IsNoEvent n line why
 
--- Why a script stops before its end; want of memory says nothing. `counts` are the output's faults before and after.
+-- Why a script stops before its end; "out of memory" says nothing. `counts` are the output's faults before and after.
 abbrev pub ScriptStops : Option (List ℕ) × Option (List ℕ) → ℕ × ℕ → NetworkParts → List ℕ → Stop → Type 0
 ScriptStops written counts n script stop.WriteFault = Rose counts.0 counts.1 × IsCut written n script
 ScriptStops written counts n script stop.NoMemory = IsCut written n script
@@ -91,7 +91,7 @@ pub record HasEvent (n : NetworkParts) (l : NumberedLine) (e : LineEvent) : Type
   pub within : length l.text ≤ line_most
   pub says : blind_line_in n l.text ≡ Some (Some e)
 
--- The line is played, and what is told of it is written so.
+-- The line is played, and its transcript is written so.
 pub record LinePlays (n : NetworkParts) (l : NumberedLine) (old new : PlayedNetwork) (Wrote : List ℕ → Type 0) : Type 0 where
   pub cue : Cue
   pub is_cue : IsCue n l cue
@@ -100,7 +100,7 @@ pub record LinePlays (n : NetworkParts) (l : NumberedLine) (old new : PlayedNetw
   pub plays : PlaysLine old cue turns told new
   pub wrote : Wrote told
 
--- Why a line stops the script; nothing is written, but where it is the output that failed.
+-- Why a line stops the script. Nothing is written then, except where the output failed.
 abbrev pub LineStops : Option (List ℕ) × Option (List ℕ) → ℕ × ℕ → NetworkParts → NumberedLine → PlayedNetwork → PlayedNetwork → Stop → Type 0
 LineStops written counts n l old new stop.WriteFault = Rose counts.0 counts.1 × LinePlays n l old new (WroteSome written)
 LineStops written counts n l old new stop.NoMemory = Keeps written.0 written.1

@@ -1,4 +1,4 @@
-//! One event of a line, done and told.
+//! One event of a line, done and written to the transcript.
 ghost use Rattle.std.specs.Prelude.{◌≡◌, ◌++◌, IfOk};
 ghost use Rattle.plant_network.specs.plant_model.Blind.{IsBlindGiven};
 ghost use Rattle.plant_network.specs.Blind.{whole};
@@ -10,7 +10,7 @@ use plant_network::BlindPlant;
 use plant_network::model::{BlindEvent, Outcome, Refused};
 use std::alloc::Global;
 
-/// What came of an event: an outcome, or why it was refused.
+/// The answer to an event: an outcome, or why it was refused.
 pub(crate) type Answer = Result<Outcome, Refused>;
 
 fn lacks_memory(answer: &Answer) -> bool
@@ -22,7 +22,7 @@ fn lacks_memory(answer: &Answer) -> bool
     }
 }
 
-// Does an event. Want of memory is no answer of the network.
+// Does an event. Running out of memory is an error, and no answer of the network.
 fn done(plant: &mut BlindPlant, event: BlindEvent) -> Result<Answer, NoMemory>
     requires { IsBlindGiven event }
     ensures { IfOk result (λ answer. Makes (whole plant.old) event answer (whole plant.new)) }
@@ -35,7 +35,7 @@ fn done(plant: &mut BlindPlant, event: BlindEvent) -> Result<Answer, NoMemory>
     }
 }
 
-/// Does an event, and tells what closed peers hear of it. Whether it was accepted.
+/// Does an event, and writes what closed peers hear of it. Returns whether it was accepted.
 pub(crate) fn play_event(
     alloc: Global,
     plant: &mut BlindPlant,

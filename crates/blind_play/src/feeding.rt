@@ -1,4 +1,4 @@
-//! Bytes that a peer feeds, and the messages that are taken of them.
+//! Bytes that a peer feeds, and the messages that are taken from them.
 ghost use Rattle.std.specs.Prelude.{◌≡◌, ◌++◌, OnOk};
 ghost use Rattle.plant_network.specs.Blind.{whole};
 ghost use Rattle.blind_play.specs.Due.{IsDueTake};

@@ -1,4 +1,4 @@
-//! Who plays the lines of a script on a network without topologies.
+//! The player of the lines of a script on a network without topologies.
 ghost use Rattle.std.specs.Prelude.{◌≡◌, IfOk};
 ghost use Rattle.run_laws.specs.Given.{IsBlindLine};
 ghost use Rattle.blind_play.specs.Playing.{IsNewNetwork, Played, cue, played_network};
@@ -43,14 +43,14 @@ impl BlindPlayer {
         self.plant.parts()
     }
 
-    /// The settings as the value that they came in.
+    /// The settings, as the value that was passed in.
     pub fn network(&self) -> &Network
         ensures { result.now ≡ (played_network self.now).network }
     {
         self.plant.network()
     }
 
-    /// Plays a line of this number; gives what closed peers hear of it: messages to them, and what they drain. After an
+    /// Plays a line of this number; returns what closed peers hear of it: messages to them, and what they drain. After an
     /// error nothing is told, and what the line did up to there stays done.
     pub fn play(&mut self, line: u32, event: LineEvent) -> Result<Vec<u8>, NoMemory>
         requires { IsBlindLine event }

@@ -24,7 +24,7 @@ fn too_large(alloc: Global) -> Stop
     }
 }
 
-// The event of a line that tells something.
+// The event of a line that is neither blank nor a comment.
 fn event_of(alloc: Global, network: &Network, number: u32, text: &[u8]) -> Result<LineEvent, Stop>
     requires told { is_skipped text.now ≡ false }
     ensures event { IfOk result (HasEvent network.now (numbered number text.now)) }
@@ -42,7 +42,7 @@ fn event_of(alloc: Global, network: &Network, number: u32, text: &[u8]) -> Resul
     }
 }
 
-// Plays a line, and writes what is told of it.
+// Plays a line, and writes its transcript.
 fn play_line<K: Sink>(
     alloc: Global,
     player: &mut BlindPlayer,

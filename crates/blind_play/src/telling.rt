@@ -1,4 +1,4 @@
-//! What closed peers hear of an event, told: its messages to them, and what one of them drained.
+//! What closed peers hear of an event, as text: its messages to them, and what one of them drained.
 ghost use Rattle.std.specs.Prelude.{◌≡◌, ◌++◌, ◌+◌, ◌<◌, [], drop, length, IfOk, OnOk, cond};
 ghost use Rattle.plant_network.specs.plant_model.Blind.{is_closed as is_closed_peer};
 ghost use Rattle.plant_network.specs.plant_model.Element.{is_client};

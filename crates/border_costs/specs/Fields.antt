@@ -1,4 +1,4 @@
--- What a solved job is, by its fields.
+-- A solved job as contracts see it, by its fields.
 use Rattle.std.specs.Prelude.{◌≡◌}
 use Rattle.te_links.specs.Rows.{IsTopology, IsInOrder}
 use Rattle.border_costs.specs.Solutions.{Solution, AreRows}

@@ -1,4 +1,4 @@
--- What is computed of an ask.
+-- The answer to an ask.
 use Rattle.std.specs.Prelude.{◌≡◌, ◌≢◌, ◌⊎◌, ◌↔◌, List, [], ◌∷◌, map, Contains, None, Some, IsTrue}
 use Rattle.std.specs.List.{zip}
 use Rattle.std.specs.declared.option.Option.{Option}

@@ -1,9 +1,9 @@
-//! What is computed of an ask.
+//! The answer to an ask.
 use dom_base::List;
 use path_certificate::Certificate;
 use vspt_tree::Best;
 
-/// What is computed of an ask: the best way from each entry that has one, in the order of the
+/// The answer to an ask: the best way from each entry that has one, in the order of the
 /// ask's entries; whether the source and the target are nodes of the domain (a target beyond it
 /// counts as known); and the labels of all nodes, as a certificate without a path.
 #[derive(Drop)]

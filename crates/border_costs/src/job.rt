@@ -1,4 +1,4 @@
-//! What is asked of a domain.
+//! Asks of a domain, and jobs: asks with their topologies.
 use dom_base::{Addr, As, Cost, List, Query};
 use std::sync::Arc;
 use te_links::Topology;
@@ -12,7 +12,7 @@ pub enum Target {
     Next(As),
 }
 
-/// What the next domain told: the least cost from one of its entries to the destination. Of
+/// A row that the next domain told: the least cost from one of its entries to the destination. Of
 /// several rows of a node the least counts.
 #[derive(Clone, Copy, Debug, PartialEq, Eq)]
 pub struct Down {
@@ -20,7 +20,7 @@ pub struct Down {
     pub cost: Cost,
 }
 
-/// What is asked of a domain: the least costs from its entries. `number` and `generation` name the
+/// An ask of a domain: the least costs from its entries. `number` and `generation` name the
 /// request and the topology that it is computed in; no cost depends on them.
 pub struct Ask {
     pub at: As,

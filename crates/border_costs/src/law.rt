@@ -1,4 +1,4 @@
-//! What the rows of an ask are worth, as laws: the contracts of calls that do nothing.
+//! What the rows of an ask show. The laws are the contracts of calls that do nothing.
 ghost use Rattle.border_costs.specs.Composing.{RowsCompose, RowsEnd, RowsReport, TableTellsPairs};
 
 /// A law: over right rows of the next domain, the rows of a domain tell the least costs of the whole

@@ -52,7 +52,7 @@ impl Model for Solved {
 }
 
 impl Solved {
-    /// The rows of a job as its solution. It takes no memory, so it never answers want of it.
+    /// The rows of a job as its solution. It takes no memory, so it never answers `NoMemory`.
     pub fn of(job: &Job, rows: Answer) -> Result<Solved, NoMemory>
         requires rows { AreRows (arc_value job.now.topology) job.now.ask rows }
         ensures solved { IsOkAnd result (λ solved. solved ≡ record { ask = job.now.ask; topology = arc_value job.now.topology; rows = rows }) }

@@ -97,7 +97,7 @@ fn rows_of<'a, G: Links<'a>>(
 /// beyond it, and the cost is that of a path inside the domain to the link's tail and the link's
 /// weight. For a target in this domain the target is the one way out, and both addresses. The rows
 /// stand in the order of their entries, and for one entry in that of their far addresses, each once,
-/// whatever the order of the ask's entries. What the next domain told has no part in it.
+/// whatever the order of the ask's entries. They do not depend on what the next domain told.
 ///
 /// It searches once for each way out, so it serves to disclose a domain's costs and to compare
 /// others with them; `solve` answers a request by one search.

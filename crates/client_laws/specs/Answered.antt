@@ -62,7 +62,7 @@ pub data HasAnswer (n : NetworkParts) (es : List Entry) (s : Plant) (client : �
   waits : (h : Row Pin) → Contains (s.elements (element_of n client)).pending.rows h → h.1.key ≡ key_of (Outside client) question.id → WaitsOutside wire s (deeds_of wire n es) (element_of n client) h →
       HasAnswer n es s client question
 
--- Where no id comes round.
+-- Where no id wraps around.
 abbrev pub QuestionIsAnswered : Type 0
 QuestionIsAnswered =
     (files : Option Files) (n : NetworkParts) (client : ℕ) (question : Question) (received : List ℕ) → IsNetwork n → IsClient n client → IsWritten (question_message question) →

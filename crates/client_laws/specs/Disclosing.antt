@@ -1,4 +1,4 @@
--- Each run has a disclosed trace, and where a script shows rows it is what is shown.
+-- Each run has a disclosed trace, and where a script shows rows, what is shown is that trace.
 use Rattle.std.specs.Prelude.{◌≡◌, ℕ, true, cond, List, [], ◌∷◌}
 use Rattle.plant_text.specs.declared.line.LineEvent.TheVariants.{DiscloseOn}
 use Rattle.plant_play.specs.plant_model.Types.{NetworkParts}
@@ -12,7 +12,7 @@ use Rattle.plant_play.specs.Scripts.{AllPlayed}
 use Rattle.plant_play.specs.Turns.{Turn, entries_of}
 use Rattle.client_laws.specs.Laws.{FeedOctets}
 
--- Each run has a disclosed trace: that none is one can't be.
+-- Each run has a disclosed trace: there can't be a run without one.
 abbrev pub RunsDisclose : Type 0
 RunsDisclose = (n : NetworkParts) (es : List Entry) (s : Plant) → Run wire n es s → ¬ ((trace : List BlindEvent) → ¬ DisclosedRun wire n es trace s)
 

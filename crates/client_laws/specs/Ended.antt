@@ -1,4 +1,4 @@
--- What a client that asks once is told is the answer to its question: nothing is said to it behind that, and no answer is without lines.
+-- A client that asks once is told the answer to its question: nothing is said to it behind that, and no answer is without lines.
 use Rattle.std.specs.Prelude.{◌≡◌, ◌≤◌, ℕ, List, [], ◌∷◌, ◌++◌, length, Option, Some}
 use Rattle.dom_edge.specs.Stores.{Files}
 use Rattle.plant_play.specs.plant_model.Types.{Answer, Message, NetworkParts}
@@ -23,7 +23,7 @@ pub data IsAnswerTo (x : ℕ) (m : Message) : Type 0 where
   is_busy : (flags : ℕ) → m ≡ busy flags x → IsAnswerTo x m
   fails : (flags kind value : ℕ) → m ≡ error_message (Some (flags, x)) kind value → IsAnswerTo x m
 
--- The last message that was put for the client answers its question, and what it is told is what that says, which is not nothing.
+-- The last message that was put for the client answers its question, and the client is told what it says, which is not nothing.
 pub record EndsAnswered (es : List Entry) (client : ℕ) (question : Question) (received : List ℕ) : Type 0 where
   pub connection : Outlet
   pub is_open : outlet client es ≡ Some connection
@@ -34,7 +34,7 @@ pub record EndsAnswered (es : List Entry) (client : ℕ) (question : Question) (
   pub told : told_text received ≡ message_lines last
   pub some : 1 ≤ length (told_text received)
 
--- Where no id comes round, and paths go on through no outside peer.
+-- Where no id wraps around, and paths go on through no outside peer.
 abbrev pub AnswerIsTold : Type 0
 AnswerIsTold =
     (files : Option Files) (n : NetworkParts) (client : ℕ) (question : Question) (received : List ℕ) → IsNetwork n → IsClient n client → IsWritten (question_message question) → StaysInside n →

@@ -1,4 +1,4 @@
--- What every script that is played is worth: to those who ask for paths, and to the owners of domains.
+-- What holds for every script that is played: for those who ask for paths, and for the owners of domains.
 use Rattle.std.specs.Prelude.{◌≡◌, ◌≤◌, ◌+◌, ℕ, List, [], ◌∷◌, length}
 use Rattle.plant_play.specs.plant_model.Types.{LineEvent, NetworkParts}
 use Rattle.plant_text.specs.declared.line.LineEvent.TheVariants as line
@@ -42,7 +42,7 @@ pub record IsRight (n : NetworkParts) (es : List Entry) (s : Plant) : Type 0 whe
 abbrev pub HasIdsLeft : NetworkParts → List Entry → Type 0
 HasIdsLeft n es = IsShort (deeds_of wire n es)
 
--- Every script is right; and without a parent no id comes round in one that feeds no more octets than there are ids.
+-- Every script is right; and without a parent no id wraps around in one that feeds no more octets than there are ids.
 abbrev pub ScriptsAreRight : Type 0
 ScriptsAreRight =
     (n : NetworkParts) → IsNetwork n → (new end : PlayedNetwork) (cues : List Cue) (turns : List Turn) (told : List ℕ) → IsNewNetwork n new → FeedOctets cues → AllPlayed new cues turns told end

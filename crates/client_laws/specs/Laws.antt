@@ -1,4 +1,4 @@
--- What a script that is played is worth: its events are those of a run of the model.
+-- A script that is played: its events are those of a run of the model.
 use Rattle.std.specs.Prelude.{◌≡◌, ◌<◌, ℕ, List, [], All}
 use Rattle.plant_play.specs.plant_model.Types.{As, LineEvent, NetworkParts}
 use Rattle.plant_text.specs.declared.line.LineEvent.TheVariants as line
@@ -10,7 +10,7 @@ use Rattle.plant_play.specs.Playing.{Cue, IsNewNetwork, Plays, PlayedNetwork}
 use Rattle.plant_play.specs.Scripts.{AllPlayed}
 use Rattle.plant_play.specs.Turns.{AreGiven, Turn, entries_of}
 
--- what an event feeds is octets
+-- the bytes that an event feeds are octets
 abbrev pub FeedsOctets : LineEvent → Type 0
 FeedsOctets (line.Feed peer bytes) = All (λ (b : ℕ). b < 256) bytes
 FeedsOctets (line.Receive peer bytes) = All (λ (b : ℕ). b < 256) bytes

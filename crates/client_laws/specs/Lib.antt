@@ -9,7 +9,7 @@ pub mod Ended
 pub mod Laws
 pub mod Headline
 pub mod Disclosing
--- handed on from below
+-- re-exported from below
 pub use Rattle.run_laws.specs as run_laws
 pub use Rattle.run_laws.specs.plant_laws
 pub use Rattle.plant_play.specs.plant_model

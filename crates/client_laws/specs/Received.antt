@@ -1,4 +1,4 @@
--- What a client that asks one question behind the other receives for each, and what is heard of it.
+-- The messages that a client which asks one question behind the other receives for each, and what it hears of them.
 use Rattle.std.specs.Prelude.{◌≡◌, ℕ, List, [], ◌∷◌, ◌++◌, map, Contains, Option, Some}
 use Rattle.dom_edge.specs.Stores.{Files}
 use Rattle.plant_play.specs.plant_model.Types.{Message, Reply, NetworkParts}

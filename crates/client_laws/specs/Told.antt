@@ -1,4 +1,4 @@
--- What a client that asks once receives, and what it is told of it.
+-- The messages that a client which asks once receives, and the lines that it is told of them.
 use Rattle.std.specs.Prelude.{◌≡◌, ℕ, true, is_some, List, [], ◌∷◌, Contains, Option, Some}
 use Rattle.dom_edge.specs.Stores.{Files}
 use Rattle.plant_play.specs.plant_model.Types.{Message, Reply, NetworkParts, Outside}

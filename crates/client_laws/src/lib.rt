@@ -1,4 +1,4 @@
-//! What a script that is played is worth, and what a client of a network asks and is told: its own questions, and the answers that were
+//! What holds for every script that is played, and what a client of a network asks and is told: its own questions, and the answers that were
 //! sent to it. Laws, as the contracts of calls that do nothing.
 #![tactic(auto)]
 
@@ -17,9 +17,9 @@ pub use scripts::{
     shown_is_disclosed,
 };
 
-/// Where a client asks once, its connection is open at the end, it receives all that was put there for it, and what it is told is what
+/// Where a client asks once, its connection is open at the end, it receives all that was put there for it, and it is told what
 /// the last of these messages answers; and each answer among them, to a request for a path, is one that the laws of a network speak of.
-/// Where a parent asks, this supposes that no id comes round.
+/// Where a parent asks, this supposes that no id wraps around.
 pub fn clients_are_told()
     ensures { ClientsAreTold }
 {}
@@ -56,7 +56,7 @@ pub fn taken_is_served()
 {}
 
 /// Where a client asks once, its session comes up and does not end, so that its question is taken by its element and not dropped.
-/// It is read as a request for a path under its number, or refused under that; and where no id comes round it has an answer: its
+/// It is read as a request for a path under its number, or refused under that; and where no id wraps around it has an answer: its
 /// element answers it, or refuses it, or it waits for an outside peer that was asked on its way.
 pub fn question_is_answered()
     ensures read { QuestionsAreRead }
@@ -64,8 +64,8 @@ pub fn question_is_answered()
     ensures answered { QuestionIsAnswered }
 {}
 
-/// Where a client asks once, no id comes round and paths go on through no outside peer, the last message that was put for the client is
-/// the answer to its question, so nothing is said to it behind that. What it is told is what that answer says, and it is not nothing: a
+/// Where a client asks once, no id wraps around and paths go on through no outside peer, the last message that was put for the client is
+/// the answer to its question, so nothing is said to it behind that. It is told what that answer says, and that is not nothing: a
 /// path has its cost, and each other answer a line.
 pub fn answer_is_told()
     ensures { AnswerIsTold }

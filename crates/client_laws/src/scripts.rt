@@ -26,7 +26,7 @@ pub fn scripts_are_runs()
 
 /// So what is proved of every run of the model holds of every script that is played: paths that clients are answered are
 /// least, NO-PATH means that none exists, and closed peers hear what a network without topologies says. The first
-/// two suppose that no id comes round, which is so without a parent where no more octets are fed than there are ids.
+/// two suppose that no id wraps around, which is so without a parent where no more octets are fed than there are ids.
 pub fn scripts_are_right()
     ensures { ScriptsAreRight }
 {}

@@ -1,4 +1,4 @@
--- What the entries of a cache hold, and what they are good for.
+-- The content of cache entries, and the topologies for which they are good.
 use Rattle.std.specs.Prelude.{◌≡◌, ◌≤◌, ℕ, List, length, None, Some, Contains, slice_get, slice_index_or}
 use Rattle.std.specs.declared.option.Option.{Option}
 use Rattle.dom_base.specs.declared.addr.Addr.{Addr}

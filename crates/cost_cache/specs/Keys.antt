@@ -1,4 +1,4 @@
--- What an entry stands under, when two keys are one, and what is hashed of a key.
+-- The key of an entry, when two keys are one, and which part of a key is hashed.
 use Rattle.std.specs.Prelude.{◌==◌, ◌&&◌, ◌++◌, ℕ, Bool, true, false, List}
 use Rattle.std.specs.Bool.{beq}
 use Rattle.std.specs.Cmp.Lexicographic.{pointwise}

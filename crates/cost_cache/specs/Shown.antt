@@ -1,4 +1,4 @@
--- What is read of a segment from what is kept.
+-- How a segment is read from what is kept.
 use Rattle.std.specs.Prelude.{◌≡◌, ℕ, List, ◌∷◌, map, Some}
 use Rattle.dom_base.specs.declared.addr.Addr.{Addr}
 use Rattle.dom_base.specs.declared.link.Link.{Link}

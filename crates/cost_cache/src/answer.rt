@@ -1,4 +1,4 @@
-//! The rows of an ask: what is kept of it, and the answer by what is kept.
+//! The rows of an ask: what the cache keeps of it, and the answer from what is kept.
 ghost use Rattle.std.specs.Prelude.{◌≡◌, IfOk};
 ghost use Rattle.te_links.specs.Rows.{IsTopology};
 ghost use Rattle.border_costs.specs.Solutions.{AreRows};
@@ -33,14 +33,14 @@ pub(crate) fn keep<'a, G: Links<'a>>(
     })
 }
 
-// The rules of a topology, of which each count of its rows tells.
+// The rules of a topology, which the contract of each count of its rows states.
 fn obeys_rules<'a, G: Links<'a>>(links: &G)
     ensures { IsTopology (G.rows links.now) }
 {
     let _nodes = links.node_count();
 }
 
-/// The rows of an ask by what is kept under its key. No link is read.
+/// The rows of an ask, from what is kept under its key. No link is read.
 pub(crate) fn answer<'a, G: Links<'a>>(
     alloc: Global,
     ask: &Ask,

@@ -1,4 +1,4 @@
-//! The best way from each entry, by what is kept.
+//! The best way from each entry, from what is kept.
 ghost use Rattle.std.specs.Prelude.{IfOk, MatchOption};
 ghost use Rattle.te_links.specs.Rows.{IsTopology};
 ghost use Rattle.border_costs.specs.Asks.{HasNoPair};

@@ -1,4 +1,4 @@
-//! What an entry holds.
+//! The content of a cache entry.
 use dom_base::{Addr, List};
 use path_search::Labels;
 

@@ -1,4 +1,4 @@
-//! What an entry stands under.
+//! The key of an entry.
 ghost use Rattle.std.specs.Prelude.{◌≡◌, IfOk, fold};
 ghost use Rattle.std.specs.List.{flat_map};
 ghost use Rattle.std.proofs.Common.{ap};
@@ -14,8 +14,8 @@ use std::alloc::Global;
 use std::hash::{Hash, Hasher};
 
 /// What the labels of an ask depend on: the element, the generation of its topology, the query, the
-/// target, and what the next domain told. The entries of an ask, its source and its number have no
-/// part in it.
+/// target, and what the next domain told. They do not depend on the entries of an ask, its source and
+/// its number.
 #[derive(Drop)]
 pub struct Key {
     pub at: As,

@@ -17,7 +17,7 @@ use std::alloc::Global;
 use te_links::Links;
 
 // Where a link from a node leads, if it is tight: its weight and the label of its end make up the
-// node's label. Most links are told apart by the label of their end alone.
+// node's label. Most links are ruled out by the label of their end alone.
 fn tight_next<'a, G: Links<'a>>(
     links: &mut G,
     query: &Query,

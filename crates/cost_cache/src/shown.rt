@@ -1,4 +1,4 @@
-//! The chosen segment of a node by what is kept.
+//! The chosen segment of a node, from what is kept.
 ghost use Rattle.std.specs.Prelude.{◌≡◌, IfOk, Some, slice_get};
 ghost use Rattle.te_links.specs.Rows.{IsTopology};
 ghost use Rattle.dom_base.specs.declared.query.Label.{Label};

@@ -12,6 +12,7 @@ use Rattle.plant_network.specs.Jobs.{told}
 use Rattle.plant_network.specs.Turns.{solve_of}
 use Rattle.plant_network.specs.declared.acts.Act.{Act}
 use Rattle.plant_network.specs.declared.acts.Act.TheVariants.{Do, Finish, Look, Map, Ready}
+use Rattle.plant_network.specs.network_links.declared.rest.Rest.{Rest}
 use Rattle.plant_network.specs.declared.acts.Acted.{Acted}
 use Rattle.plant_network.specs.declared.acts.Acted.TheVariants.{Committed, Did, Found, Looked, Mapped}
 use Rattle.plant_network.specs.declared.acts.ActAnswer.{ActAnswer}
@@ -57,18 +58,18 @@ module _ (i : ℕ) where
   none_of : (es : Events) (cs : List Call) → Same es cs → Same (es ++ []) cs
   none_of es cs same = ap (at_peer i) (append-nil es) ∙ same
 
-  own_step : (es : Events) (cs : List Call) (a : Act) (r : Acted) → Same es cs → Same (es ++ event_of a r) (cons_option (desk_call a r) cs)
-  own_step es cs (Do e) (Did (Ok o)) same = one_more es cs ((e, Ok o) ∷ []) same
-  own_step es cs (Do e) (Did (Err why)) same = one_more es cs ((e, Err why) ∷ []) same
-  own_step es cs (Finish x) (Committed r) same =
+  own_step : (es : Events) (cs : List Call) (a : Act) (r : Acted) (rest : Rest) → Same es cs → Same (es ++ event_of a r) (cons_option (desk_call a r rest) cs)
+  own_step es cs (Do e) (Did (Ok o)) rest same = one_more es cs ((e, Ok o) ∷ []) same
+  own_step es cs (Do e) (Did (Err why)) rest same = one_more es cs ((e, Err why) ∷ []) same
+  own_step es cs (Finish x) (Committed r) rest same =
       filter_on (is_at i) es ((solve_of x, told r) ∷ [])
       ∙ ap (λ (b : Bool). at_peer i es ++ cond b ((solve_of x, told r) ∷ []) []) (and_false (is_accepted (told r)))
       ∙ append-nil (at_peer i es) ∙ same
-  own_step es cs a r same = none_of es cs same
+  own_step es cs a r rest same = none_of es cs same
 
-  pub own_events : (own : List (Act × ActAnswer)) → Same (events_of own) (filter_map (λ (e : Act × ActAnswer). desk_call e.0 e.1.acted) own)
+  pub own_events : (own : List (Act × ActAnswer)) → Same (events_of own) (filter_map (λ (e : Act × ActAnswer). desk_call e.0 e.1.acted e.1.rest) own)
   own_events [] = refl
-  own_events (e ∷ es) = own_step (events_of es) (filter_map (λ (x : Act × ActAnswer). desk_call x.0 x.1.acted) es) e.0 e.1.acted (own_events es)
+  own_events (e ∷ es) = own_step (events_of es) (filter_map (λ (x : Act × ActAnswer). desk_call x.0 x.1.acted x.1.rest) es) e.0 e.1.acted e.1.rest (own_events es)
 
   -- ---- the calls of a session
 

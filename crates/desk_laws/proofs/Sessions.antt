@@ -10,7 +10,8 @@ use Rattle.plant_network.specs.plant_model.declared.outcome.Outcome.{Outcome}
 use Rattle.plant_network.specs.plant_model.declared.outcome.Refused.{Refused}
 use Rattle.plant_network.specs.plant_model.declared.outcome.Refused.TheVariants.{NoMemory as NoRoom, NoSuchPeer}
 use Rattle.server_loops.specs.Desks.{Call, call}
-use Rattle.server_loops.specs.Sessions.{AreTakes, AreTurns, IsAccepted, IsDrained, IsFed, IsRefused, IsSession, IsShut, IsTurn, IsUnopened, Last, Makes, Runs, StopsAt, drained, drained_by, joined, refused}
+use Rattle.plant_network.specs.network_links.declared.rest.Rest.TheVariants.{Messages}
+use Rattle.server_loops.specs.Sessions.{AreTakes, AreTurns, EndsTakes, IsDrained, IsFed, IsLastTake, IsRefused, IsSession, IsShut, IsTake, IsTurn, IsUnopened, Last, Makes, Runs, StopsAt, drained, drained_by, joined, refused}
 use Rattle.server_loops.specs.declared.sessions.Ended.{Ended}
 use Rattle.server_loops.specs.declared.sessions.Ended.TheVariants.{Closed, Lost, NoMemory, NotOpened, PeerEnd, ReadFault, Spent, Turns, WriteFault}
 use Rattle.server_loops.proofs.Turning.{all_on}
@@ -53,16 +54,20 @@ module _ (i holder : ℕ) where
   fed_in got.End into cs is = absurd is
   fed_in got.Failed into cs is = absurd is
 
-  taken_in : (cs : List Call) → AllByRecursion (IsAccepted (event.Take i)) cs → In cs
+  taken_in : (cs : List Call) → AllByRecursion (IsTake i Messages) cs → In cs
   taken_in [] all = tt
-  taken_in (c ∷ cs) all = (subst (IsWithin i) (sym all.0.event) tt, taken_in cs all.1)
+  taken_in (c ∷ cs) all = (subst (IsWithin i) (sym all.0.accepted.event) tt, taken_in cs all.1)
+
+  last_take_in : (c : Call) → IsLastTake i c → In (c ∷ [])
+  last_take_in c (inl is) = subst (λ (x : Call). In (x ∷ [])) (sym is.1) (tt, tt)
+  last_take_in c (inr is) = (subst (IsWithin i) (sym is.2.accepted.event) tt, tt)
 
   takes_in : (cs : List Call) → AreTakes i cs → In cs
-  takes_in cs is = subst In (sym is.is) (on is.taken is.last (taken_in is.taken is.each) (last_in is.last is.ends))
+  takes_in cs is = subst In (sym is.is) (on is.taken is.last (taken_in is.taken is.each) (ends_in is.last is.ends))
     where
-      last_in : (last : List Call) → ((length is.taken ≡ 65536) × (last ≡ [])) ⊎ ((why : Refused) × (length is.taken < 65536) × (last ≡ refused (event.Take i) why ∷ [])) → In last
-      last_in last (inl none) = subst In (sym none.1) tt
-      last_in last (inr more) = subst In (sym more.2) (tt, tt)
+      ends_in : (last : List Call) → EndsTakes i (length is.taken) last → In last
+      ends_in last (inl none) = subst In (sym none.1) tt
+      ends_in last (inr more) = subst In (sym more.1.2) (last_take_in more.1.0 more.1.1)
 
   turn_in : (cs : List Call) (old new : Sides) → IsTurn i holder cs old new → In cs
   turn_in cs old new is = subst In (sym is.is) (drained_in _ is.first _ _ is.has_read.drained, on is.feeds is.takes (fed_in is.answer is.into is.feeds is.is_fed) (takes_in is.takes is.are_takes))

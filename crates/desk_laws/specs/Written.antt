@@ -1,4 +1,4 @@
--- What a session writes over its link is a first part of what the run of the network put for that peer.
+-- What a session writes over its link is a prefix of what the run of the network put for that peer.
 use Rattle.std.specs.Prelude.{◌≡◌, ◌⊎◌, ℕ, true, List, [], ◌++◌, map, Contains, Some}
 use Rattle.dom_edge.specs.Heeding.{Sides}
 use Rattle.dom_edge.specs.Streams.{Writing}

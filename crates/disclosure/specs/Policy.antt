@@ -32,6 +32,6 @@ IsAllowed deny class next = All (λ row. ¬ Denies class next row) deny
 
 -- ---- a law
 
--- The test and the relation are one.
+-- The test finds no denial exactly where no row denies the request.
 abbrev pub DenialIsTested : Type 0
 DenialIsTested = (deny : List Deny) (class : Class) (next : As) → (is_denied deny class next ≡ false) ↔ IsAllowed deny class next

@@ -1,4 +1,4 @@
-//! What a peer is, and what it may have done.
+//! The class of a peer, and what it is permitted.
 ghost use Rattle.std.specs.Prelude.{◌≡◌, not};
 ghost use Rattle.disclosure.specs.Policy.{can_expand, denies_from, is_denied, DenialIsTested};
 
@@ -52,7 +52,7 @@ pub fn allows(deny: &[Deny], class: Class, next: As) -> bool
     }
 }
 
-/// That no row is about a request, and the test of it, are one.
+/// A law: the test finds no denial exactly where no row denies a request.
 pub fn denial_is_tested()
     ensures { DenialIsTested }
 {}

@@ -59,7 +59,7 @@ pub record AskPair (own : ℕ) (asked : List Objects) (p : Pair) : Type 0 where
   pub asks_second : Asks own (plain other.objects) p.second
   pub paired : ArePaired one.objects other.objects p.first p.second
 
--- the error that the first request is answered with, or else the second
+-- the error in answer to the first request, or else to the second
 abbrev pub first_refusal : ℕ → List Objects → Option (ℕ × ℕ)
 first_refusal own [] = None
 first_refusal own (one ∷ []) = refusal_of own (plain one.objects)
@@ -72,7 +72,7 @@ AnswersPair own asked (Err (errors.Refused kind value)) = first_refusal own aske
 AnswersPair own asked (Err errors.NotBuilt) = (first_refusal own asked ≡ None) × ((p : Pair) → ¬ AskPair own asked p)
 AnswersPair own asked (Err errors.NoMemory) = Unit {0}
 
--- the same for one request, its SVECs apart
+-- the same for one request, without its SVECs
 abbrev pub AnswersPlain : ℕ → List Object → Result Request PairError → Type 0
 AnswersPlain own os (Ok r) = Asks own (plain os) r
 AnswersPlain own os (Err (errors.Refused kind value)) = refusal_of own (plain os) ≡ Some (kind, value)

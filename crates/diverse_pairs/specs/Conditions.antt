@@ -1,4 +1,4 @@
--- The conditions of a certificate in their order, each at a place of its own, and what it is worth where all of them hold.
+-- The conditions of a certificate in their order, each at a place of its own, and what the certificate shows where all of them hold.
 use Rattle.std.specs.Prelude.{◌≡◌, ◌≢◌, ◌⊎◌, ◌+◌, ◌-◌, ◌<◌, ◌≤◌, ℕ, List, [], ◌∷◌, ◌++◌, length, take, drop, map, slice_get, Some, AllPairs, Contains}
 use Rattle.dom_base.specs.declared.addr.Addr.{Addr}
 use Rattle.dom_base.specs.declared.link.Link.{Link as TeLink}
@@ -113,7 +113,7 @@ pub record IsFirstFalse (a : Asked) (form : PairForm) (place : Place) : Type 0 w
   pub fails : ¬ HoldsAt a form place
   pub earlier : (other : Place) → IsBefore other place → HoldsAt a form other
 
--- what a check has to say
+-- the verdict of a check
 abbrev pub IsVerdict : Asked → PairForm → PairVerdict → Type 0
 IsVerdict a form Holds = (place : Place) → HoldsAt a form place
 IsVerdict a form (Fails place) = IsFirstFalse a form place

@@ -1,4 +1,4 @@
--- What solving a pair answers: a certificate that holds, of the chosen pair or of a cut.
+-- The answer of solving a pair: a certificate that holds, of the chosen pair or of a cut.
 use Rattle.std.specs.Prelude.{◌≤◌, ℕ, List, length}
 use Rattle.dom_base.specs.declared.addr.Addr.{Addr}
 use Rattle.dom_base.specs.declared.link.Link.{Link}

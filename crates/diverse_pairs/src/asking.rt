@@ -13,7 +13,7 @@ use pcep_messages::{Asked, Refusal, Request, Wish, request_of};
 use pcep_objects::{Body, Object};
 use std::alloc::Global;
 
-/// Two requests for one path each, of which the paths are to share no link.
+/// Two requests for one path each; the two paths are to share no link.
 #[derive(Drop)]
 pub struct Pair {
     pub first: Request,
@@ -41,7 +41,7 @@ impl From<NoMemory> for PairError {
     }
 }
 
-// What a request asks for, its SVECs apart.
+// What a request asks for without its SVECs.
 fn plain_request(alloc: Global, asked: &Asked, own: As) -> Result<Request, PairError>
     ensures { AnswersPlain own.0 asked.now.objects result }
 {
@@ -126,8 +126,8 @@ fn are_paired(one: &[Object], other: &[Object], first: &Request, second: &Reques
 
 /// The pair that the requests of a message ask the element of the domain `own` for: two for one path
 /// within any cost and within the domain, joined by an SVEC in front of them that asks for link
-/// diversity alone. Otherwise the first refusal of the first request, then of the second, where an
-/// SVEC has no part in it; else it is not built.
+/// diversity alone. Otherwise the first refusal of the first request, then of the second, each without
+/// its SVECs; where neither is refused, `NotBuilt`.
 pub fn pair_of(alloc: Global, asked: &[Asked], own: As) -> Result<Pair, PairError>
     ensures { AnswersPair own.0 asked.now result }
 {

@@ -1,4 +1,4 @@
-//! What is claimed of a pair, and what shows it.
+//! What is claimed of a pair, and its proof.
 use dom_base::{Addr, As, List};
 
 /// What is claimed of a domain: a least pair of paths, or that there is none.

@@ -13,7 +13,7 @@ use dom_base::{Addr, Query, stands};
 use path_certificate::{Place, admits_node};
 use te_links::Topology;
 
-// What a check says of paths with potentials.
+// The verdict on paths with potentials.
 fn check_paths(
     topology: &Topology,
     query: &Query,
@@ -37,7 +37,7 @@ fn check_paths(
     }
 }
 
-// What a check says of a cut.
+// The verdict on a cut.
 fn check_cut(
     topology: &Topology,
     query: &Query,

@@ -1,4 +1,4 @@
-//! What stands in the rows of a certificate.
+//! Look-ups in the rows of a certificate.
 ghost use Rattle.std.specs.Prelude.{◌≡◌, ◌++◌, ◌↔◌, Contains, IsTrue};
 ghost use Rattle.diverse_pairs.specs.Potentials.{potential_in, AreRising};
 

@@ -11,7 +11,7 @@ use crate::arcs::{Arc, UNREACHED};
 use dom_base::NoMemory;
 use std::alloc::Global;
 
-/// By how much one unit of cost counts for more than one arc: more than a path has arcs.
+/// One unit of cost weighs as much as this many arcs, which is more than a path has.
 pub const SCALE: u64 = 2048;
 
 fn residual_arc(arc: &Arc, distances: &[u64], used: bool) -> Option<Arc>

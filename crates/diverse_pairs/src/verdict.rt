@@ -1,4 +1,4 @@
-//! What a check of a pair says.
+//! The verdict of a check of a pair.
 use path_certificate::Place;
 
 /// All conditions hold, or which is the first that is false. Of paths, the place is an address,

@@ -10,13 +10,13 @@ use dom_base::NoMemory;
 use std::alloc::Global;
 use std::marker::Model;
 
-// So many nodes are a block.
+// The number of nodes in a block.
 const BLOCK: usize = 8;
 
-// So many blocks are a group.
+// The number of blocks in a group.
 const BLOCKS: usize = 8;
 
-// So many nodes are a group.
+// The number of nodes in a group.
 const GROUP: usize = 64;
 
 fn no_distances(alloc: Global, nodes: usize) -> Result<Vec<u64>, NoMemory>

@@ -14,7 +14,7 @@ use dom_base::{Addr, As, Bytes, List, NoMemory, write_addr, write_number};
 use path_certificate::write_addrs;
 use std::alloc::Global;
 
-// Each of these writes lines at the end. After a refusal a part of them may stand there.
+// Each of these writes lines at the end. On `NoMemory` a part of them may stand there.
 
 fn write_header(own: As, into: &mut Vec<u8>) -> Result<(), NoMemory>
     ensures ok { OnOk result (into.new.items ≡ into.old.items ++ line_text (header_words own)) }

@@ -58,8 +58,8 @@ addr_of_groups _ = None
 
 -- ---- both
 
--- The address that a word means: where it has a colon, what stands between its colons are the groups, else what stands between its
--- dots are the octets.
+-- The address that a word means. With a colon in the word, the parts between its colons are the groups of an IPv6 address; else the parts
+-- between its dots are the octets of an IPv4 address.
 unfoldable pub addr_in : List ℕ → Option Addr
 addr_in word = if list_any (λ c. c == colon) word
     then addr_of_groups (slice_split (λ c. c == colon) word)

@@ -1,4 +1,4 @@
--- The limit of costs, as a number: that which the constant of the code is.
+-- The limit of costs, as a number. The constant in the code is proved to be this number.
 use Rattle.std.specs.Prelude.{◌≡◌}
 use Rattle.dom_base.specs.declared.limits.TheConstants.{COST_MAX}
 

@@ -1,4 +1,4 @@
--- Steps of which each may find nothing.
+-- Steps that may each find nothing.
 use Rattle.std.specs.Prelude.{Option, option_and_then}
 
 infixl 10 ◌>>=◌

@@ -20,7 +20,7 @@ fn has(mark: u8, word: &[u8]) -> bool
     word.contains(&mark)
 }
 
-// What stands before the first mark, and what behind it.
+// The bytes before the first mark, and the bytes behind it.
 fn cut_at(mark: u8, word: &[u8]) -> Option<(&[u8], &[u8])>
     ensures { MatchOption result
         (slice_split (λ c. c == mark) word.now ≡ word.now ∷ [])
@@ -45,7 +45,7 @@ fn four_parts(mark: u8, word: &[u8]) -> Option<(&[u8], &[u8], &[u8], &[u8])>
     }
 }
 
-// The first four parts of a word, and what stands behind its fourth mark.
+// The first four parts of a word, and the bytes behind its fourth mark.
 fn first_four(mark: u8, word: &[u8]) -> Option<(&[u8], &[u8], &[u8], &[u8], &[u8])>
     ensures { MatchOption result
         (length (slice_split (λ c. c == mark) word.now) ≤ 4)
@@ -133,7 +133,7 @@ pub fn read_addr(word: &[u8]) -> Option<Addr>
     }
 }
 
-// Writes four octets with dots between them at the end. After a refusal a part of them may stand
+// Writes four octets with dots between them at the end. On `NoMemory` a part of them may stand
 // there.
 fn push_octets(a: u8, b: u8, c: u8, d: u8, into: &mut Vec<u8>) -> Result<(), NoMemory>
     ensures ok { OnOk result (into.new.items ≡ into.old.items ++ join_with_byte dot (map decimal (a ∷ b ∷ c ∷ d ∷ []))) }
@@ -185,7 +185,7 @@ fn four_texts(number: u64) -> [u8; 19]
     ]
 }
 
-// Writes two parts with a colon between them at the end. After a refusal a part of them may stand
+// Writes two parts with a colon between them at the end. On `NoMemory` a part of them may stand
 // there.
 fn push_parts(first: &[u8], second: &[u8], into: &mut Vec<u8>) -> Result<(), NoMemory>
     ensures ok { OnOk result (into.new.items ≡ into.old.items ++ (first.now ++ colon ∷ second.now)) }
@@ -212,7 +212,7 @@ fn write_groups(number: u128, into: &mut Vec<u8>) -> Result<(), NoMemory>
 
 /// Writes an address at the end: an IPv4 address as four decimal numbers with dots between them,
 /// an IPv6 address as eight groups of four lower-case hexadecimal digits with colons between
-/// them. After a refusal `into` is as before.
+/// them. On `NoMemory` `into` is as before.
 pub fn write_addr(addr: Addr, into: &mut Vec<u8>) -> Result<(), NoMemory>
     ensures ok { OnOk result (into.new.items ≡ into.old.items ++ addr_text addr) }
     ensures err { OnErr result (into.new.items ≡ into.old.items) }

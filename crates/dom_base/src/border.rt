@@ -18,7 +18,7 @@ pub struct ParentLink {
     pub link: Link,
 }
 
-// Written, so that it is proved once: a derived one is proved anew in each crate that drops a value.
+// Written by hand, so that it is proved once: a derived one would be proved again in each crate that drops a value.
 impl Drop for ParentLink {
     fn drop(self) {
         let ParentLink {

@@ -1,4 +1,4 @@
-//! The plain types that every part of the path computation speaks of, and the words of the wire.
+//! The plain types that the path computation shares: addresses, costs, links, queries, lists, texts, and numbers as octets.
 #![tactic(auto)]
 
 mod addr;

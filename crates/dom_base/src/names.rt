@@ -1,4 +1,4 @@
-//! The names of domains and peers, moments, and the refusal of memory.
+//! The names of domains and peers, moments, and the error "out of memory".
 use std::alloc::{AllocError, AllocFailed};
 
 /// The number of a routing domain, an autonomous system (RFC 1930). 0 is no domain: it stands for
@@ -18,7 +18,7 @@ pub enum Peer {
     Inner(As),
 }
 
-/// A growth of memory was refused.
+/// Out of memory: the allocator refused a growth.
 #[derive(Clone, Copy, Debug)]
 pub struct NoMemory;
 

@@ -41,7 +41,7 @@ pub fn read_number(word: &[u8], most: u64) -> Option<u64>
     if number <= most { Some(number) } else { None }
 }
 
-/// Writes a number in decimal digits, without leading zeros, at the end. After a refusal `into`
+/// Writes a number in decimal digits, without leading zeros, at the end. On `NoMemory` `into`
 /// is as before.
 #[tactic(auto, using(crate::proofs::NumeralLaws::number_again))]
 pub fn write_number(n: u64, into: &mut Vec<u8>) -> Result<(), NoMemory>
@@ -76,7 +76,7 @@ pub(crate) fn hex_digit(value: u8) -> u8
     }
 }
 
-/// Writes a colour as eight hexadecimal digits of lower case at the end. After a refusal `into` is
+/// Writes a colour as eight hexadecimal digits of lower case at the end. On `NoMemory` `into` is
 /// as before.
 #[tactic(auto, using(crate::proofs::NumeralLaws::colour_again), unfolding(crate::specs::Numerals::colour_text))]
 pub fn write_colour(colour: u32, into: &mut Vec<u8>) -> Result<(), NoMemory>

@@ -10,7 +10,7 @@ pub struct Text {
     text: String,
 }
 
-// Written, so that it is proved once: a derived one is proved anew in each crate that drops a value.
+// Written by hand, so that it is proved once: a derived one would be proved again in each crate that drops a value.
 impl Drop for Text {
     fn drop(self) {
         let Text { text: _ } = self;

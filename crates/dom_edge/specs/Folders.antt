@@ -1,4 +1,4 @@
--- What stands in a folder, where it is told: the names that were made in it, and the files that were closed.
+-- The contents of a folder, where they are known: the names that were made in it, and the files that were closed.
 use Rattle.std.specs.Prelude.{◌≡◌, ℕ, List, [], ◌∷◌, ◌++◌, ◌⊎◌, codes, Contains, Result, Ok, Err, None, Some}
 use Rattle.std.specs.declared.option.Option.{Option}
 use Rattle.dom_edge.specs.declared.folder.FolderError.{FolderError}

@@ -1,4 +1,4 @@
--- Whom a listener heeds, and what its `accept` hands out.
+-- From whom a listener accepts connections, and what its `accept` returns.
 use Rattle.std.specs.Prelude.{◌≡◌, ◌/◌, ◌%◌, ◌^◌, List, [], ◌∷◌, ◌++◌, None, Some, nat_eq, if◌then◌else◌}
 use Rattle.std.specs.declared.option.Option.{Option}
 use Rattle.dom_base.specs.declared.addr.Addr.{Addr}

@@ -1,4 +1,4 @@
--- Causes, Streams, Stores, Folders, Moments, Heeding and Opening are what callers read; Memory, Time and Links say what the forms in memory and of the system hold, Sockets what the real sockets tell.
+-- Callers read Causes, Streams, Stores, Folders, Moments, Heeding and Opening. Memory, Time and Links give the state of the forms in memory and of the system, Sockets that of the real sockets.
 pub mod Causes
 pub mod Streams
 pub mod Whole

@@ -1,4 +1,4 @@
--- What a `listen`, a `listen_for` and a `dial` hand out.
+-- What a `listen`, a `listen_for` and a `dial` return.
 use Rattle.std.specs.Prelude.{◌≡◌, ℕ}
 use Rattle.std.specs.declared.option.Option.{Option}
 use Rattle.dom_base.specs.declared.addr.Addr.{Addr}

@@ -1,4 +1,4 @@
--- What the system's sockets tell and count.
+-- What the system's sockets report and count.
 use Rattle.std.specs.Prelude.{◌≡◌, ◌⊎◌, ℕ, List, [], map, None}
 use Rattle.std.specs.declared.option.Option.{Option}
 use Rattle.std.specs.declared.net.ip_addr.IpAddr.{IpAddr}

@@ -1,4 +1,4 @@
-//! The outside: where bytes come from and go to, files by their names, clocks, and ports with their connections.
+//! The outside world: sources and sinks of bytes, files by their names, clocks, and ports with their connections.
 #![tactic(auto)]
 
 mod bell;

@@ -12,12 +12,12 @@ pub record NumberedLine : Type 0 where
 abbrev pub is_skipped : List ℕ → Bool
 is_skipped line = list_all is_blank line || (slice_index line 0 == 35)
 
--- the lines that tell something, where some lines stand before them; those that are skipped count too
+-- the lines that are not skipped, numbered behind so many earlier lines; skipped lines count too
 abbrev pub told_after : ℕ → List (List ℕ) → List NumberedLine
 told_after before [] = []
 told_after before (line ∷ others) =
     if is_skipped line then told_after (before + 1) others else record { number = before + 1; text = line } ∷ told_after (before + 1) others
 
--- the lines of a text that tell something, numbered from 1
+-- the lines of a text that are neither blank nor a comment, numbered from 1
 abbrev pub told_lines : List ℕ → List NumberedLine
 told_lines bytes = told_after 0 (lines bytes)

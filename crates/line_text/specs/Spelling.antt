@@ -12,12 +12,12 @@ line_text words = joined words ++ 10 ∷ []
 abbrev pub text_of : List (List (List ℕ)) → List ℕ
 text_of lines = flat_map line_text lines
 
--- one byte or more, and none of those up to the blank
+-- one byte or more, each greater than the blank
 pub record IsWord (word : List ℕ) : Type 0 where
   pub some : 0 < length word
   pub bytes : AllByRecursion (λ c. 32 < c) word
 
--- words of which the first begins no comment
+-- words, the first of which begins no comment
 pub record IsLine (words : List (List ℕ)) : Type 0 where
   pub some : 0 < length words
   pub each : AllByRecursion IsWord words

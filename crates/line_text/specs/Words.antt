@@ -1,4 +1,4 @@
--- The words of a line: what stands between its blanks, which are space and tab.
+-- The words of a line: the bytes between its blanks, which are space and tab.
 use Rattle.std.specs.Prelude.{ℕ, ◌-◌, ◌==◌, ◌||◌, ◌&&◌, Bool, not, List, Option, Some, None, length, filter, slice_index, if◌then◌else◌}
 use Rattle.std.specs.List.{slice_split}
 

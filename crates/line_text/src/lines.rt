@@ -30,7 +30,7 @@ fn without_return(line: &[u8]) -> &[u8]
     }
 }
 
-// The first line, and what stands behind it.
+// The first line, and the text behind it.
 fn cut_line(text: &[u8]) -> Option<(&[u8], &[u8])>
     ensures { MatchOption result
         (lines_of text.now ≡ [])
@@ -45,7 +45,7 @@ fn cut_line(text: &[u8]) -> Option<(&[u8], &[u8])>
     }
 }
 
-/// How many lines a text has, those that are blank or a comment too.
+/// How many lines a text has, blank lines and comments included.
 pub fn line_count(text: &[u8]) -> usize
     ensures count { result ≡ length (lines_of text.now) }
     ensures few { result ≤ length text.now }
@@ -72,8 +72,8 @@ fn is_skipped(line: &[u8]) -> bool
     is_all_blank(line) || line.starts_with(b"#")
 }
 
-// The first line that tells something, where some lines stand before the text, and what stands
-// behind it.
+// The first line that is neither blank nor a comment, and the text behind it. `before` lines
+// stand in front of the text.
 fn cut_told_line(text: &[u8], before: u32) -> Option<(Line<'_>, &[u8])>
     requires { before + length (lines_of text.now) < 2 ^ 32 }
     ensures { MatchOption result
@@ -93,8 +93,8 @@ fn cut_told_line(text: &[u8], before: u32) -> Option<(Line<'_>, &[u8])>
     None
 }
 
-/// The lines of a text that are still to come, without those that are blank or a comment: they
-/// only count. Copies nothing.
+/// The lines of a text that are still to come. Blank lines and comments are counted and skipped.
+/// Copies nothing.
 #[derive(Drop)]
 pub struct Lines<'a> {
     rest: &'a [u8],

@@ -18,7 +18,7 @@ fn blank_of(piece: &[u8]) -> Option<usize>
     piece.iter().position(|c| *c == b' ' || *c == b'\t')
 }
 
-// What stands before the first blank, and what behind it.
+// The bytes before the first blank, and the bytes behind it.
 fn cut_at_blank(piece: &[u8]) -> Option<(&[u8], &[u8])>
     ensures { MatchOption result
         (slice_split is_blank piece.now ≡ piece.now ∷ [])
@@ -28,7 +28,7 @@ fn cut_at_blank(piece: &[u8]) -> Option<(&[u8], &[u8])>
     Some((&piece[..place], &piece[place + 1..]))
 }
 
-// The first word, and what stands behind it.
+// The first word, and the bytes behind it.
 fn cut_word(line: &[u8]) -> Option<(&[u8], &[u8])>
     ensures { MatchOption result
         (all_words line.now ≡ [])
@@ -65,7 +65,7 @@ impl<'a> Model for Words<'a> {
 }
 
 impl<'a> Words<'a> {
-    /// All words of a line, blanks before the first or after the last or not.
+    /// All words of a line; blanks before the first and after the last are skipped.
     pub fn new(line: &'a [u8]) -> Words<'a>
         ensures { result ≡ all_words line.now }
     {

@@ -1,4 +1,4 @@
--- Room that queues have, accounted for by what is said: with each message there is no less room by more than it takes.
+-- The room of queues, accounted for by what is said: each message reduces the room by no more than it takes.
 use Rattle.std.specs.Prelude.{◌≡◌, ◌≤◌, ℕ, ◌+◌, Bool, true, false, cond, List, [], ◌∷◌, length, is_some}
 use Rattle.pce_common.specs.plant_model.Types.{As, Peer, Outside, Inner, Sent}
 use Rattle.request_table.specs.Pending.{same_peer}

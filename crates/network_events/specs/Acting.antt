@@ -1,4 +1,4 @@
--- What the actions of a step of a session ask for: how they stand in a row, and the room that they need.
+-- The actions of a step of a session: their order, and the room that they need.
 use Rattle.std.specs.Prelude.{◌≡◌, ◌≤◌, ℕ, ◌+◌, ◌*◌, true, false, cond, List, [], ◌∷◌, length, Option, Some, None}
 use Rattle.pce_common.specs.plant_model.Types.{As, Peer, Outside, Inner, Action, Input, State as Session}
 use Rattle.pcep_session.specs.declared.actions.Action.TheVariants.{Send, Up, Down, Pass}

@@ -20,7 +20,7 @@ pub record IsAnswer {P : Type 0} {S : Type 0} (n : NetworkParts) (at : As) (outp
   pub owed_after : (a : As) (q : Peer) → owed a q new ≤ owed a q old
   pub pending_after : pending_in (elements_of n.elements) new ≤ pending_in (elements_of n.elements) old
 
--- what a member sends is put into queues, and nothing else was said
+-- the messages that a member sends are put into queues, and nothing else was said
 pub record Sends {P : Type 0} {S : Type 0} (n : NetworkParts) (show : S → List Hop) (at : As) (outputs : List Output) (ms : Membership P S) (old new : Flow) : Type 0 where
   pub state : state_of ms new ≡ deeds.puts P S wire n show at outputs (state_of ms old)
   pub said : new.said ≡ sent_by wire at outputs

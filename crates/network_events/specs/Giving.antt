@@ -30,7 +30,7 @@ pub record RoomToPut (letters : List Sent) (f : Flow) : Type 0 where
   pub there : (at : As) (to : Peer) → Covers (room_at at to f) (count_into at to letters) (bytes_into at to letters)
   pub said : Covers f.room.said (length letters) (total size_of letters)
 
--- what a message makes of a member, and the letters that it sends
+-- what a message changes in a member, and the letters that it sends
 pub record IsGiven {P : Type 0} {S : Type 0} (n : NetworkParts) (show : S → List Hop) (at : As) (p : Peer) (now : ℕ) (m : Message) (old new : Membership P S) (letters : List Sent) : Type 0 where
   pub members : new ≡ (given wire n show at p now m old).members
   pub letters_are : letters ≡ sent_by wire at (given wire n show at p now m old).outputs

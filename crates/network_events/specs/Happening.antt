@@ -1,4 +1,4 @@
--- An event is what the model has of it.
+-- An event is done as in the model.
 use Rattle.std.specs.Prelude.{◌≡◌, ◌⊎◌, OnOk, Err}
 use Rattle.pce_common.specs.plant_model.declared.outcome.Refused.TheVariants.{NoMemory}
 use Rattle.pce_common.specs.plant_model.Events.{Answered, Happened}
@@ -14,6 +14,6 @@ pub record IsDone {P : Type 0} {S : Type 0} (h : Happened P S) (told : Answered)
   pub state : state_of ms f ≡ h.state
   pub said : OnOk told (f.said ≡ said wire h.deeds)
 
--- the same, or memory lacked
+-- the same, or memory ran out
 abbrev pub IsDoneOrLacks : {P : Type 0} {S : Type 0} → Happened P S → Answered → Membership P S → Flow → Type 0
 IsDoneOrLacks h told ms f = IsDone h told ms f ⊎ (told ≡ Err NoMemory)

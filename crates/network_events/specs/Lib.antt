@@ -17,7 +17,7 @@ pub mod Using
 pub mod Answering
 pub mod Whole
 pub mod Moving
--- handed on from below
+-- re-exported from below
 pub use Rattle.pce_common.specs as pce_common
 pub use Rattle.pce_common.specs.plant_model
 pub use Rattle.network_links.specs as network_links

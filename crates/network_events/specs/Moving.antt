@@ -40,6 +40,6 @@ module _ {P : Type 0} {S : Type 0} where
     pub stepped : Stepped step (whole old) answer (whole new)
     pub kept : IsKept new
 
-  -- this happens, or it is refused for want of memory where that may be, and nothing changes
+  -- this happens, or, where it takes memory, it is refused when out of memory, and nothing changes
   abbrev pub OrLacks : (S → List Hop) → (State P S → Bool) → (NetworkParts → State P S → Happened P S) → Step P S
   OrLacks show needs happens n s h = (h ≡ happens n s) ⊎ ((needs s ≡ true) × (h ≡ refused P S wire n show NoMemory s))

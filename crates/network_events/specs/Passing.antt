@@ -1,4 +1,4 @@
--- What a network's traffic is between events.
+-- The traffic of a network between events.
 use Rattle.std.specs.Prelude.{◌≡◌, length}
 use Rattle.pce_common.specs.plant_model.Types.{NetworkParts}
 use Rattle.plant_text.specs.Settings.{adjacencies}

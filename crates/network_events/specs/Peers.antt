@@ -1,4 +1,4 @@
--- What the model says of outside peers and of ends of links, of any peer by its case.
+-- The model's definitions for outside peers and for ends of links, as one for any peer.
 use Rattle.std.specs.Prelude.{◌≡◌, Bool, true, false, cond, List, [], ◌∷◌}
 use Rattle.pce_common.specs.plant_model.Types.{As, Peer, Outside, Inner, Hop, Message, Action, Input, NetworkParts}
 use Rattle.pcep_session.specs.declared.actions.Action.TheVariants as action
@@ -43,7 +43,7 @@ abbrev pub breaks_by : Peer → List Action → Bool
 breaks_by (Outside i) as' = false
 breaks_by (Inner b) as' = any_fall as'
 
--- what a member is given of a message that a session passes on: of an outside peer's what its element heeds by its pending requests
+-- what a member is given of a message that a session passes on: of an outside peer's message what its element heeds by its pending requests
 abbrev pub heard_from : {P : Type 0} → Peer → List (Row P) → Message → Message
 heard_from (Outside i) rows m = heeded wire (Outside i) rows m
 heard_from (Inner b) rows m = m
@@ -77,7 +77,7 @@ module _ (P : Type 0) (S : Type 0) (n : NetworkParts) (show : S → List Hop) wh
   input_at at (Outside i) x g = deeds.outside_input P S wire n show i x g
   input_at at (Inner b) x g = deeds.inner_input P S wire n show (adjacency b at) at b x g
 
-  -- a member is given the first of what waits for it
+  -- a member is given the first item that waits for it
   abbrev pub receive_at : As → Peer → State P S → Happened P S
   receive_at at (Outside i) s = events.take P S wire n show i s
   receive_at at (Inner b) s = events.carry P S wire n show b at s

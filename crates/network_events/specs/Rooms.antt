@@ -32,13 +32,13 @@ pub record KeepsAnswers {P : Type 0} {S : Type 0} (n : NetworkParts) (ms : Membe
 abbrev pub own_most : NetworkParts → ℕ
 own_most n = 2 * length n.peers + 4 * length (adjacencies n)
 
--- what is said has room for so many messages of sessions, and for every answer that is owed
+-- the list of said messages has room for so many messages of sessions, and for every answer that is owed
 abbrev pub KeepsSaid : {P : Type 0} {S : Type 0} → ℕ → NetworkParts → Membership P S → Spare → Type 0
 KeepsSaid own n ms room =
     let pending = pending_in (elements_of n.elements) ms in
     Covers room (own + pending) (OWN_LENGTH * own + ANSWER_LENGTH * pending)
 
--- what is said is room again in the next event
+-- the room of the list of said messages once it is cleared, as it is in the next event
 abbrev pub said_in_all : Flow → Spare
 said_in_all f = record { messages = f.room.said.messages + length f.said; bytes = f.room.said.bytes + total size_of f.said }
 

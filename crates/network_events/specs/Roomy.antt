@@ -5,7 +5,7 @@ use Rattle.network_links.specs.Flow.{Flow}
 use Rattle.pce_common.specs.Membership.{Membership}
 use Rattle.network_events.specs.Rooms.{KeepsAnswers, KeepsSaid, own_most, said_in_all}
 
--- What is said has room for so many more messages of sessions, and for every answer that is owed. When the event is over, there is
+-- The list of said messages has room for so many more messages of sessions, and for every answer that is owed. After the event there is
 -- as much room again as between events.
 pub record KeepsOn {P : Type 0} {S : Type 0} (own : ℕ) (n : NetworkParts) (ms : Membership P S) (f : Flow) : Type 0 where
   pub answers : KeepsAnswers n ms f

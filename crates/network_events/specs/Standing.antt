@@ -1,4 +1,4 @@
--- Where members and traffic stand in an event that has gone so far, and what a deed makes of them.
+-- Members and traffic in the middle of an event, and what a deed makes of them.
 use Rattle.std.specs.Prelude.{◌≡◌, List, []}
 use Rattle.pce_common.specs.plant_model.Types.{As, NetworkParts}
 use Rattle.pce_common.specs.plant_model.declared.output.Lost.{Lost}

@@ -1,4 +1,4 @@
--- What a step of a session asks for, at any input and at a tick.
+-- The actions of a step of a session, at any input and at a tick.
 use Rattle.std.specs.Prelude.{◌≡◌, ◌⊎◌, ◌≤◌, List, [], ◌∷◌, length}
 use Rattle.pce_common.specs.plant_model.Types.{Tick, Message, Action, Own, Input, State as Session}
 use Rattle.pcep_session.specs.declared.actions.Action.TheVariants.{Send, Down, Pass}
@@ -14,7 +14,7 @@ use Rattle.network_events.specs.Acting.{IsOwnTurn}
 abbrev pub IsPass : List Action → Type 0
 IsPass as' = (m : Message) × (as' ≡ Pass m ∷ [])
 
--- last words, no longer than an error or a Close, and then the end
+-- last messages, no longer than an error or a Close, and then the end
 abbrev pub IsLast : List Action → Type 0
 IsLast as' = (o : Own) × (why : Reason) × (length (own_bytes o) ≤ OWN_LENGTH) × (as' ≡ Send o ∷ Down why ∷ [])
 

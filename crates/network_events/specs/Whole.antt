@@ -1,4 +1,4 @@
--- A network as its callers see it, whatever a pin is and a key stands for, and what a step of a model leaves of it.
+-- A network as its callers see it, for any kind of pins and keys, and what a step of a model leaves of it.
 use Rattle.std.specs.Prelude.{◌≡◌, List, OnOk, OnErr}
 use Rattle.pce_common.specs.plant_model.Types.{NetworkParts, Sent}
 use Rattle.pce_common.specs.plant_model.Events.{Answered, Happened}
@@ -12,7 +12,7 @@ pub record Whole (P : Type 0) (S : Type 0) : Type 0 where
   pub state : State P S
   pub said : List Sent
 
--- what a step may be, of a network of these settings in this state
+-- the steps of a network of these settings in this state
 abbrev pub Step : Type 0 → Type 0 → Type 1
 Step P S = NetworkParts → State P S → Happened P S → Type 0
 

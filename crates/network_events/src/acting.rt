@@ -1,4 +1,4 @@
-//! What a session of a member with a peer, outside or inside, asks for where it passes nothing on.
+//! The actions of a session of a member with a peer, outside or inside, where it passes nothing on.
 ghost use Rattle.std.specs.Prelude.{◌≡◌, true, false, [], ◌∷◌, length, Some, MatchOption};
 ghost use Rattle.dom_base.specs.declared.names.As.{As};
 ghost use Rattle.pcep_session.specs.declared.session.Input.{Input};

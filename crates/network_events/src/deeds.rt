@@ -1,4 +1,4 @@
-//! What a session says, that it comes up, and that it goes down.
+//! The deeds of a session: it says a message, comes up, or goes down.
 ghost use Rattle.std.specs.Prelude.{◌≡◌, ◌≤◌, true, [], length};
 ghost use Rattle.plant_queues.specs.Messages.{Covers};
 ghost use Rattle.dom_base.specs.declared.names.As.{As};

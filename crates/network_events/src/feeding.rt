@@ -11,7 +11,7 @@ use network_links::Traffic;
 use pce_common::Members;
 use pce_common::model::{Outcome, Refused};
 
-/// An outside peer feeds bytes. A refusal changes nothing but room; no memory lacks where nothing is taken.
+/// An outside peer feeds bytes. A refused feed changes nothing but room; memory cannot run out where nothing is taken.
 pub fn feed<M: Members>(
     _members: &M,
     traffic: &mut Traffic,
@@ -26,7 +26,7 @@ pub fn feed<M: Members>(
     Ok(Outcome::Done)
 }
 
-/// What waits for an outside peer is handed out to the holder of its connection. A refusal changes nothing but
+/// What waits for an outside peer is handed out to the holder of its connection. A refused drain changes nothing but
 /// room.
 pub fn drain<M: Members>(
     _members: &M,

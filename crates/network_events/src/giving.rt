@@ -1,4 +1,4 @@
-//! A member is given a message: first whatever takes memory, and then the deed, which takes none.
+//! A member is given a message: first all memory is taken, and then the deed is done, which takes none.
 ghost use Rattle.std.specs.Prelude.{◌≡◌, ◌≤◌, ◌<◌, ◌+◌, ◌*◌, ◌++◌, true, [], ◌∷◌, length, IfErr, IfOk, IfSome, OnOk, OnErr, Some, slice_get};
 ghost use Rattle.plant_queues.specs.declared.sent.Sent.{Sent};
 ghost use Rattle.plant_queues.specs.Messages.{total, Covers};
@@ -25,7 +25,7 @@ use pcep_messages::{Message, write_message};
 use plant_queues::Said;
 use std::alloc::Global;
 
-/// What a message makes of a member, and what it sends, in its bytes.
+/// What a message changes in a member, and the messages that this sends, as bytes.
 #[derive(Drop)]
 pub(crate) struct Prepared<P> {
     pub(crate) plan: P,
@@ -67,7 +67,7 @@ fn write_one(alloc: Global, at: As, output: &Output, letters: &mut Said) -> Resu
     Ok(())
 }
 
-// What is sent, in its bytes.
+// The messages that are sent, as bytes.
 fn write_all(alloc: Global, at: As, outputs: &Outputs) -> Result<Said, NoMemory>
     ensures { IfOk result (λ letters. letters.kept ≡ sent_by wire at outputs.now) }
 {
@@ -149,7 +149,7 @@ fn reserve_queue<M: Members>(
     traffic.reserve(at, to, need.messages, need.bytes)
 }
 
-// What all sessions say of themselves in one event, at most.
+// How many messages of their own all sessions say in one event, at most.
 fn count_own(traffic: &Traffic) -> Option<usize>
     ensures { IfSome result (λ count. count ≡ own_words (flow_of traffic.now)) }
 {
@@ -162,7 +162,7 @@ fn count_own(traffic: &Traffic) -> Option<usize>
     outside.checked_add(inner)
 }
 
-// Room in what is said.
+// Room in the list of said messages.
 pub(crate) fn reserve_words<M: Members>(
     members: &M,
     traffic: &mut Traffic,
@@ -212,7 +212,7 @@ fn reserve_all<M: Members>(
     Ok(())
 }
 
-/// What a member makes of a message, with room for all that it sends and for all that is then owed.
+/// What a message changes in a member, with room for all that this sends and for all that is then owed.
 /// Nothing changes but room.
 pub(crate) fn prepare<M: Members>(
     alloc: Global,

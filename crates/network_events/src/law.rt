@@ -9,7 +9,7 @@ pub fn requests_are_counted()
 {}
 
 /// A step of a session passes a message on and does nothing else, or passes none on. A tick passes none
-/// on: it says nothing, a Keepalive, or last words.
+/// on: it says nothing, a Keepalive, or its last messages.
 pub fn steps_are_turns()
     ensures steps { StepsAreTurns }
     ensures ticks { TicksAreTurns }

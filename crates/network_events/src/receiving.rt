@@ -1,4 +1,4 @@
-//! A session is given the first that waits for it. All memory is taken before anything changes.
+//! A session is given the first item that waits for it. All memory is taken before anything changes.
 ghost use Rattle.std.specs.Prelude.{◌≡◌, ◌⊎◌, ◌+◌, ◌*◌, true, false, [], ◌∷◌, Some, IfOk, IfErr, OnOk};
 ghost use Rattle.dom_base.specs.declared.names.As.{As};
 ghost use Rattle.dom_base.specs.declared.names.Peer.TheVariants.{Inner, Outside};
@@ -76,7 +76,7 @@ fn reserve_word<M: Members>(
     traffic.reserve(at, to, messages, bytes)
 }
 
-// What a member is given of a message that its session passes on: of an outside peer's what its element heeds.
+// What a member is given of a message that its session passes on: of an outside peer's message what the element heeds.
 fn heard<M: Members>(members: &M, at: As, to: Peer, message: Message) -> Result<Message, NoMemory>
     ensures { IfOk result (λ heeded. heeded ≡ heard_from to ((M.stands members.now).seen.elements at).pending.rows message) }
 {
@@ -132,7 +132,7 @@ fn receive_acted<M: Members>(
     Ok(())
 }
 
-// What the session asks for is done.
+// The actions that the session asks for are done.
 fn receive_step<M: Members>(
     alloc: Global,
     members: &mut M,
@@ -153,7 +153,7 @@ fn receive_step<M: Members>(
     }
 }
 
-// The session of a member with a peer is given the first that waits for it.
+// The session of a member with a peer is given the first item that waits for it.
 fn receive<M: Members>(
     alloc: Global,
     members: &mut M,

@@ -1,4 +1,4 @@
--- What is asked for: from a node of the first domain to one of the last, through all of them.
+-- The requests over the drawn network: from a node of the first domain to one of the last, through all of them.
 use Rattle.std.specs.Prelude.{ℕ, ◌+◌, ◌*◌, ◌%◌, List, [], ◌∷◌}
 use Rattle.dom_base.specs.declared.names.As.{As}
 use Rattle.network_files.specs.declared.requests.Ends.{Ends}

@@ -1,7 +1,7 @@
--- Numbers that are drawn one after the other: a linear congruential generator modulo 2^64 (Knuth's constants), of whose states the upper 31 bits count.
+-- Numbers that are drawn one after the other: a linear congruential generator modulo 2^64 (Knuth's constants). A draw is a state's upper 31 bits.
 use Rattle.std.specs.Prelude.{ℕ, zero, suc, ◌+◌, ◌*◌, ◌/◌, ◌%◌, ◌^◌}
 
--- the state behind a state
+-- the state after a state
 abbrev pub state_after : ℕ → ℕ
 state_after x = (x * 6364136223846793005 + 1442695040888963407) % 2 ^ 64
 

@@ -1,4 +1,4 @@
--- What a file of a store says, and why it says nothing.
+-- Which value a file of a store gives, and why it gives none.
 use Rattle.std.specs.Prelude.{◌≡◌, ◌≤◌, ℕ, List, length, Option}
 use Rattle.dom_edge.specs.Causes.{Rose}
 use Rattle.dom_edge.specs.Stores.{Files, HasFile, IfFile, IsLongFile}
@@ -14,7 +14,7 @@ pub record FileSays {V : Type 0} (Says : List ℕ → V → Type 0) (limit : ℕ
   pub within : length bytes ≤ limit
   pub is_text : Says bytes value
 
--- Why that file says nothing, where `IsFault` is what is wrong with bytes. `counts` are the store's faults before and after, and
+-- Why that file gives no value, where `IsFault` is what is wrong with bytes. `counts` are the store's faults before and after, and
 -- `failed_at` the name at which it last failed.
 abbrev pub IsWhyNot : {F : Type 0} → (List ℕ → F → Type 0) → ℕ → Option Files → List ℕ → ℕ × ℕ → List ℕ → LoadError F → Type 0
 IsWhyNot {F} IsFault limit files name counts failed_at errors.Failed = Rose counts.0 counts.1 × (failed_at ≡ name)
@@ -22,7 +22,7 @@ IsWhyNot {F} IsFault limit files name counts failed_at errors.TooLong = IsLongFi
 IsWhyNot {F} IsFault limit files name counts failed_at (errors.Fault fault) = IfFile files name (λ bytes. IsFault bytes fault)
 IsWhyNot {F} IsFault limit files name counts failed_at errors.NoMemory = Unit {0}
 
--- what is told of a file that was not read
+-- the error for a file that was not read
 abbrev pub unread : {F : Type 0} → StoreError → LoadError F
 unread {F} store.TooLong = errors.TooLong
 unread {F} store.Failed = errors.Failed

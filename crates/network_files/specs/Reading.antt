@@ -17,7 +17,7 @@ use Rattle.plant_text.specs.declared.fault.NetFault.TheVariants as fault
 use Rattle.network_files.specs.declared.error.FileError.{FileError}
 use Rattle.network_files.specs.declared.error.FileError.TheVariants.{BadFile, NoMemory}
 
--- want of memory, and nothing else
+-- out of memory, and no other error
 abbrev pub IsWant : FileError → Type 0
 IsWant NoMemory = Unit {0}
 IsWant why = ⊥
@@ -30,7 +30,7 @@ IsTopologyFault at file line (fault.Topo told) = IsFaulty file line told
 IsTopologyFault at file line fault.OtherAs = (line ≡ 1) × ((g : Rows) × Reads file g × (g.own ≢ at))
 IsTopologyFault at file line other = ⊥
 
--- want of memory says nothing
+-- "out of memory" says nothing
 abbrev pub IsWhyNoTopology : As → List ℕ → FileError → Type 0
 IsWhyNoTopology at file (BadFile line fault) = IsTopologyFault at file line fault
 IsWhyNoTopology at file NoMemory = Unit {0}
@@ -46,21 +46,21 @@ abbrev pub IsWhyNoChanges : List ℕ → FileError → Type 0
 IsWhyNoChanges file (BadFile line fault) = IsTextFault file line fault
 IsWhyNoChanges file NoMemory = Unit {0}
 
--- what is told of changes that can't be made
+-- the fault of changes that can't be made
 abbrev pub fault_of : ChangeError → Option NetFault
 fault_of (change.Absent i) = Some fault.Absent
 fault_of (change.Present i) = Some fault.Present
 fault_of (change.Rule told row) = Some (fault.Topo told)
 fault_of change.NoMemory = None
 
--- the changes of a file can't be made to a topology, and this line is to blame
+-- the changes of a file can't be made to a topology, and this line is at fault
 pub record CannotChange (g : Rows) (changes : List Change) (file : List ℕ) (line : ℕ) (fault : NetFault) : Type 0 where
   pub why : ChangeError
   pub is_why : IsWhy g changes why
   pub told : fault_of why ≡ Some fault
   pub blamed : IsBlamedAt g changes file why line
 
--- the same; or memory lacks, and every change can be made
+-- the same; or out of memory, and every change can be made
 abbrev pub IsRefusal : Rows → List Change → List ℕ → FileError → Type 0
 IsRefusal g changes file (BadFile line fault) = CannotChange g changes file line fault
 IsRefusal g changes file NoMemory = CanBeMade (rows_in_order g) changes
@@ -69,7 +69,7 @@ IsRefusal g changes file NoMemory = CanBeMade (rows_in_order g) changes
 abbrev pub IsChangeFault : As → Rows → List Change → List ℕ → ℕ → NetFault → Type 0
 IsChangeFault at g changes file line why = CannotChange g changes file line why ⊎ ((line ≡ 1) × (why ≡ fault.OtherAs) × (g.own ≢ at))
 
--- the same; or memory lacks, where the topology is of the domain and every change can be made
+-- the same; or out of memory, where the topology is of the domain and every change can be made
 abbrev pub IsWhyNoChange : As → Rows → List Change → List ℕ → FileError → Type 0
 IsWhyNoChange at g changes file (BadFile line fault) = IsChangeFault at g changes file line fault
 IsWhyNoChange at g changes file NoMemory = (g.own ≡ at) × CanBeMade (rows_in_order g) changes

@@ -1,4 +1,4 @@
-//! The rows of a domain that is drawn.
+//! The rows of a domain that is drawn pseudorandomly.
 ghost use Rattle.std.specs.Prelude.{◌≡◌, ◌≤◌, ◌+◌, ◌*◌, ◌++◌, ◌∷◌, [], cond, length, IfOk, OnOk};
 ghost use Rattle.network_files.specs.Draws.{draws_most};
 ghost use Rattle.network_files.specs.DrawnRows.{are_joined, drawn_link, drawn_links, entries_of, is_far, is_next, node, nodes_of, out_address, out_link, outs_of, parts_of, side, span, spans, spans_to};

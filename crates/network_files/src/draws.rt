@@ -1,4 +1,4 @@
-//! Numbers that are drawn one after the other.
+//! Pseudorandom numbers, drawn one after the other.
 ghost use Rattle.std.specs.Prelude.{◌≡◌, ◌+◌, ◌<◌};
 ghost use Rattle.network_files.specs.Draws.{drawn, draws_most, state_after};
 
@@ -26,7 +26,7 @@ const MULTIPLIER: u128 = 6_364_136_223_846_793_005;
 
 const INCREMENT: u128 = 1_442_695_040_888_963_407;
 
-// The state behind a state.
+// The next state.
 fn state_after(state: u64) -> u64
     ensures { result ≡ state_after state }
 {

@@ -8,8 +8,8 @@ use plant_text::NetFault;
 /// Why the file of a line gives no topology to load.
 #[derive(Drop)]
 pub enum FileError {
-    /// The file is refused at this line of it, from 1: its text is, its topology is of another domain than the line names,
-    /// or its changes can't be made; 0 where a change leaves a row that was there before against the rules.
+    /// The file is refused at this line of it, from 1, for its text, for a topology of another domain than the line names,
+    /// or for changes that can't be made; 0 where a change leaves a row that was there before against the rules.
     BadFile(u32, NetFault),
     NoMemory,
 }

@@ -12,7 +12,7 @@ use std::alloc::Global;
 use te_links::{Parts, Topology};
 use te_text::write_topology;
 
-// The topology of these rows. They obey its rules; were it otherwise, it would be told as want of memory.
+// The topology of these rows, which obey the rules; other rows would be answered by `NoMemory`.
 fn build(alloc: Global, rows: Parts) -> Result<Topology, NoMemory>
     ensures { IfOk result (λ topology. IsDrawn rows topology) }
 {

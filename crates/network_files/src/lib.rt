@@ -1,5 +1,5 @@
-//! What stands in files: the settings of a network and the topology of a domain in a file of a store; the topology in the file that a
-//! line names, and one with the changes of such a file. And the files of a large network that is drawn from a number, with requests over it.
+//! The contents of files: the settings of a network, the topology of a domain, and the topology or the changes in the file that a line
+//! names. Also the files of a large network that is drawn pseudorandomly, and requests over it.
 #![tactic(auto)]
 
 mod drawn_rows;

@@ -1,4 +1,4 @@
-//! What a file of a store gives: settings, or a topology.
+//! Settings and topologies from files of a store.
 ghost use Rattle.std.specs.Prelude.{◌≡◌, ◌≤◌, IfOk, IfErr};
 ghost use Rattle.plant_text.specs.Reads.{IsFaulty};
 ghost use Rattle.network_files.specs.Loading.{IsWhyNot, unread};
@@ -20,11 +20,11 @@ pub const TOPOLOGY_MAX: usize = 4_194_304;
 /// Why a file gives nothing. `F` is what can be wrong with its text.
 #[derive(Drop)]
 pub enum LoadError<F> {
-    /// The read failed; a name that is not there is a fault.
+    /// The read failed, or no file has the name.
     Failed,
     /// The file has more bytes than one of its kind may have.
     TooLong,
-    /// What is wrong with the text.
+    /// The fault of the text.
     Fault(F),
     NoMemory,
 }

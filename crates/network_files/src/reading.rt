@@ -1,4 +1,4 @@
-//! What the file of a line gives: its topology, its changes, and a topology with these changes.
+//! The topology or the changes in the file of a line, and a topology with these changes.
 ghost use Rattle.std.specs.Prelude.{◌≡◌, ◌≤◌, Ok, IfErr, IfOk, length};
 ghost use Rattle.te_links.specs.Rows.{IsInOrder, IsTopology};
 ghost use Rattle.te_deltas.specs.Answers.{IsBuiltOf, IsWhy};

@@ -1,4 +1,4 @@
-//! What is asked for.
+//! The requests over the drawn network.
 ghost use Rattle.std.specs.Prelude.{◌≡◌, ◌≤◌, ◌<◌, ◌+◌, IfOk};
 ghost use Rattle.network_files.specs.Draws.{draws_most};
 ghost use Rattle.network_files.specs.DrawnRequests.{drawn_ends, number_at, sequence};

@@ -1,4 +1,4 @@
--- What calls do to one outside peer.
+-- The effects of calls on one outside peer.
 use Rattle.std.specs.Prelude.{◌≡◌, ◌==◌, ℕ, Bool, true, false, [], Option, Some, None, Result, Err, IfOk, OnOk, OnErr}
 use Rattle.plant_model.specs.Types.{NoMemory as Want, Tick}
 use Rattle.pcep_framing.specs.Frames.{joined}
@@ -15,7 +15,7 @@ use Rattle.network_links.specs.Peers.{Guest}
 use Rattle.network_links.specs.QuietSides.{is_quiet_peer, ticked_quietly}
 use Rattle.network_links.specs.Rooms.{Queue, KeepsRoom, Grows, Spends, Frees, queue}
 
--- what its connection keeps changes, if it is open
+-- its connection changes, if it is open
 abbrev pub on_guest : (Connection → Connection) → Guest → Guest
 on_guest f g = record g { access = on_connection f g.access }
 
@@ -53,7 +53,7 @@ pub record TicksGuest (now : Tick) (quiet : Bool) (old new : Guest) : Type 0 whe
 
 -- ---- a feed
 
--- nothing is taken where its session is over, so no memory lacks then
+-- where its session is over nothing is taken, so memory cannot run out
 pub record FeedsOpen (piece : Bytes) (x : Connection) (r : Result (Unit {0}) Refused) (old new : Guest) : Type 0 where
   pub ok : OnOk r (Goes (fed_while_up piece) old new)
   pub err : OnErr r ((r ≡ Err NoMemory) × (new ≡ old))

@@ -1,4 +1,4 @@
--- What a connection is, by its fields.
+-- A connection as contracts see it, by its fields.
 use Rattle.plant_model.specs.State.{Connection}
 use Rattle.network_links.specs.Ends.{Roomy}
 use Rattle.network_links.specs.declared.connection.Connection.TheInside.{Inside}

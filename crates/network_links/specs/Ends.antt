@@ -1,4 +1,4 @@
--- What stands at one end of a session: its state, and the messages that it has sent and that are on their way.
+-- One end of a session: its state, and the messages that it has sent and that are on their way.
 use Rattle.std.specs.Prelude.{◌≡◌, ℕ, Bool, true, false, cond, List, [], ◌∷◌, ◌++◌, Option, Some, None}
 use Rattle.plant_model.specs.Types.{Tick, Action, Own, Input, State as Session}
 use Rattle.pcep_messages.specs.Spelling.{message_text}
@@ -63,7 +63,7 @@ just_open holder sid now = record {
   out = [];
 }
 
--- what a piece of the stream makes of a connection: nothing once its session is over
+-- a connection after a piece of the stream; it stays as it is once its session is over
 abbrev pub fed_while_up : Bytes → Connection → Connection
 fed_while_up piece x = cond (is_down x.session.phase) x (fed wire piece x)
 

@@ -1,4 +1,4 @@
--- What is on its way in a network, whatever its elements are.
+-- The state between the members of a network, whatever its elements are.
 use Rattle.std.specs.Prelude.{◌≡◌, ℕ, ◌+◌, ◌%◌, true, List, [], ◌∷◌, ◌++◌, Option, Some, None, Result, OnOk, OnErr, drop, slice_get}
 use Rattle.std.specs.Option.{option_map}
 use Rattle.plant_model.specs.Types.{As, NoMemory, Peer, Outside, Inner, Tick, State as Session, Sent}
@@ -110,7 +110,7 @@ abbrev pub MaySet : As → Peer → Session → Flow → Type 0
 MaySet at (Outside i) session f = Unit {0}
 MaySet at (Inner b) session f = (has_adjacency at b f.adjacencies ≡ true) × (session.offer.sid ≡ (f.sessions at b).offer.sid)
 
--- the first of what waits for it; only from outside comes what cannot be a message
+-- the first item that waits for it; only from outside comes what cannot be a message
 abbrev pub first_at : As → Peer → Flow → Option (Option Bytes)
 first_at at (Outside i) f = slice_get (inbox_of (f.accesses i).connection) 0
 first_at at (Inner b) f = option_map Some (slice_get (f.queues b at) 0)
@@ -134,7 +134,7 @@ pub record DropsFirst (at to : As) (old new : Flow) : Type 0 where
   pub kept : new ≡ record (set_queue at to (drop 1 (old.queues at to)) old) { room = set_room at (Inner to) (new.room.inner at to) old.room }
   pub room : Frees (queue (old.queues at to) (old.room.inner at to)) (queue (new.queues at to) (new.room.inner at to))
 
--- the first of what waits for a member leaves
+-- the first item that waits for a member leaves
 abbrev pub DropsFirstAt : As → Peer → Flow → Flow → Type 0
 DropsFirstAt at (Outside i) old new = new ≡ change_access i drop_first old
 DropsFirstAt at (Inner b) old new = DropsFirst b at old new
@@ -161,7 +161,7 @@ put_at at (Inner b) message f = set_queue at b (f.queues at b ++ message ∷ [])
 abbrev pub put_flow : As → Peer → Bytes → Flow → Flow
 put_flow at to message f = record (put_at at to message f) { said = f.said ++ sent_of at to message ∷ [] }
 
--- This queue, and what is said, have less room by no more than one message; no other queue's room changes.
+-- This queue and the list of said messages lose room for no more than one message; no other queue's room changes.
 pub record SpendsAt (at : As) (to : Peer) (message : Bytes) (old new : Flow) : Type 0 where
   pub there : Spends message (room_at at to old) (room_at at to new)
   pub said : Spends message old.room.said new.room.said

@@ -1,4 +1,4 @@
--- What an event of an outside peer leaves on its way, whatever the elements are.
+-- What an event of an outside peer changes in the flow, whatever the elements are.
 use Rattle.std.specs.Prelude.{◌≡◌, ◌==◌, ℕ, Bool, true, false, List, [], ◌∷◌, Option, Some, None, Result, Ok, Err, OnOk, OnErr}
 use Rattle.plant_model.specs.declared.outcome.Outcome.TheVariants.{Done, Drained}
 use Rattle.plant_model.specs.declared.outcome.Refused.{Refused}

@@ -1,4 +1,4 @@
--- How long messages of sessions are, in octets, as numbers (RFC 5440, sections 6.1 and 7): those that the constants of the code are.
+-- How long messages of sessions are, in octets, as numbers (RFC 5440, sections 6.1 and 7). The constants in the code are proved to be these.
 use Rattle.std.specs.Prelude.{◌≡◌}
 use Rattle.network_links.specs.declared.TheConstants.{OWN_LENGTH, ANSWER_LENGTH}
 

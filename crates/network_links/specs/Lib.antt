@@ -11,6 +11,7 @@ pub mod Links
 pub mod Inboxes
 pub mod QuietSides
 pub mod Adjacencies
+pub mod Rests
 -- inner
 pub mod Sides
 pub mod Peers
@@ -21,5 +22,5 @@ pub mod SideFields
 pub mod ConnectionFields
 pub mod LinkFields
 pub mod Places
--- handed on from below
+-- re-exported from below
 pub use Rattle.plant_model.specs as plant_model

@@ -1,4 +1,4 @@
--- What a link is, by its fields.
+-- A link as contracts see it, by its fields.
 use Rattle.std.specs.Prelude.{◌≡◌}
 use Rattle.network_links.specs.Links.{Joined}
 use Rattle.network_links.specs.declared.link.Link.TheInside.{Inside}

@@ -58,7 +58,7 @@ guest_at i g = record { access = g.accesses i; room = g.room i }
 abbrev pub set_guest : ℕ → Guest → Guests → Guests
 set_guest i x g = record g { accesses = set_number i x.access g.accesses; room = set_number i x.room g.room }
 
--- one of them changes, and so
+-- one of them changes in this way
 pub record Changes (i : ℕ) (so : Guest → Guest → Type 0) (old new : Guests) : Type 0 where
   pub rest : new ≡ set_guest i (guest_at i new) old
   pub does : so (guest_at i old) (guest_at i new)

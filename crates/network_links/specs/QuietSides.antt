@@ -1,4 +1,4 @@
--- What a tick makes of a connection whose session has nothing to say or to do at it.
+-- A connection after a tick at which its session has nothing to say or to do.
 use Rattle.std.specs.Prelude.{Bool, true, Option, Some, None}
 use Rattle.plant_model.specs.Types.{Tick}
 use Rattle.pcep_session.specs.Quiet.{is_quiet, after_quiet}

@@ -1,4 +1,4 @@
--- How much room queues keep for what is said where no memory may be taken.
+-- The room that queues keep for messages that are said where no memory may be taken.
 use Rattle.std.specs.Prelude.{◌≡◌, ◌≤◌, ℕ, ◌+◌, List, [], ◌∷◌, ◌++◌, length, drop}
 use Rattle.plant_queues.specs.Messages.{Queued, Spare, Covers, IsRoomAgain, total}
 use Rattle.network_links.specs.declared.TheConstants.{OWN_LENGTH}
@@ -9,7 +9,7 @@ Queue = Queued (List ℕ)
 abbrev pub queue : List (List ℕ) → Spare → Queue
 queue out spare = record { kept = out; spare = spare }
 
--- what there is room for once the queue is emptied
+-- the room once the queue is emptied
 abbrev pub room_in_all : Queue → Spare
 room_in_all q = record {
   messages = q.spare.messages + length q.kept;
@@ -36,7 +36,7 @@ pub record Puts (message : List ℕ) (old new : Queue) : Type 0 where
   pub kept : new.kept ≡ old.kept ++ message ∷ []
   pub spends : Spends message old.spare new.spare
 
--- what left is room again
+-- the room of messages that left is free again
 abbrev pub Frees : Queue → Queue → Type 0
 Frees old new = IsRoomAgain (λ (message : List ℕ). length message) old new
 

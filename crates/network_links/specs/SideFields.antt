@@ -1,4 +1,4 @@
--- What an end of a session is, by its fields.
+-- An end of a session as contracts see it, by its fields.
 use Rattle.network_links.specs.Ends.{Roomy, Sender}
 use Rattle.network_links.specs.declared.side.Side.TheInside.{Inside}
 

@@ -17,7 +17,7 @@ use Rattle.network_links.specs.Flow.{no_room}
 abbrev pub Side : Type 0
 Side = Roomy Sender
 
--- what stands at an end without a link
+-- the side at an end without a link
 abbrev pub no_side : Side
 no_side = record { kept = new_sender; spare = no_room }
 
@@ -101,7 +101,7 @@ pub record Begins (sid : ℕ) (now : Tick) (x y : Side) : Type 0 where
   pub kept : y.kept ≡ begun sid now x.kept
   pub room : Spends (own_bytes (Open (our_offer sid))) x.spare y.spare
 
--- an end of a link changes so, and nothing else
+-- an end of a link changes in this way, and nothing else does
 pub record EndChanges (e : End) (so : Side → Side → Type 0) (x y : Joined) : Type 0 where
   pub rest : y ≡ set_end e (at_end e y) x
   pub does : so (at_end e x) (at_end e y)
@@ -112,7 +112,7 @@ pub record BothChange (so : Side → Side → Type 0) (x y : Joined) : Type 0 wh
   pub lower : so x.lower y.lower
   pub upper : so x.upper y.upper
 
--- what one end sends to the other changes so, and nothing else
+-- what one end sends to the other changes in this way, and nothing else does
 pub record SideChanges (a b : As) (so : Side → Side → Type 0) (old new : Row) : Type 0 where
   pub rest : new ≡ set_side a b (new.sides a b) old
   pub does : so (old.sides a b) (new.sides a b)

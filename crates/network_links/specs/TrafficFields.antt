@@ -1,4 +1,4 @@
--- What a traffic is, by its fields.
+-- A traffic as contracts see it, by its fields.
 use Rattle.network_links.specs.Carried.{Carried}
 use Rattle.network_links.specs.declared.traffic.Traffic.TheInside.{Inside}
 

@@ -26,7 +26,7 @@ impl Access {
     }
 
     /// Connects it with this holder: a connection whose session has the next number and has not begun, with
-    /// room for what it says of itself. A peer that was opened 2^64 - 1 times is refused for want of
+    /// room for what it says of itself. A peer that was opened 2^64 - 1 times is refused as if out of
     /// memory. An `Err` changes nothing.
     pub fn connect(&mut self, alloc: Global, holder: u32, now: Tick) -> Result<(), NoMemory>
         ensures count { OnOk result (self.new.opened ≡ self.old.opened + 1) }

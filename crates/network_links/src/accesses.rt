@@ -1,4 +1,4 @@
-//! What calls do to one outside peer.
+//! The effects of calls on one outside peer.
 ghost use Rattle.std.specs.Prelude.{◌≡◌, [], length};
 ghost use Rattle.plant_queues.specs.Messages.{Covers};
 ghost use Rattle.plant_model.specs.Deeds as deeds;

@@ -1,5 +1,5 @@
 //! An open connection of an outside peer.
-ghost use Rattle.std.specs.Prelude.{◌≡◌, [], drop, length, slice_get, IfOk, OnOk, OnErr, IsTrue, false};
+ghost use Rattle.std.specs.Prelude.{◌≡◌, [], drop, length, slice_get, IfOk, OnOk, OnErr, IsTrue, false, Some};
 ghost use Rattle.std.specs.Option.{option_map};
 ghost use Rattle.pcep_framing.specs.Frames.{joined};
 ghost use Rattle.pcep_session.specs.Quiet.{is_quiet};
@@ -9,9 +9,11 @@ ghost use Rattle.plant_model.specs.Deeds as deeds;
 ghost use Rattle.plant_model.specs.Events as events;
 ghost use Rattle.network_links.specs.Ends.{just_open, fed_while_up, is_left_out, with_kept};
 ghost use Rattle.network_links.specs.QuietSides.{ticked_quietly};
+ghost use Rattle.network_links.specs.Rests.{rest_of};
 ghost use Rattle.network_links.specs.Rooms.{KeepsRoom, Grows, Spends, Frees, queue};
 
 use crate::inbox::{Item, append_all, arrive, input_of};
+use crate::rest::{BACKLOG_MAX, Rest};
 use crate::side::Side;
 use dom_base::{Bytes, List, NoMemory, Tick};
 use pcep_framing::Framer;
@@ -63,14 +65,14 @@ impl Connection {
         self.holder
     }
 
-    /// Its session, of which a copy can be stepped and kept or not.
+    /// Its session. A copy of it can be stepped, and then kept or dropped.
     pub fn session(&self) -> Session
         ensures { result ≡ self.now.kept.session }
     {
         self.side.session()
     }
 
-    /// Puts the session in place of the one that stands there; queues and inbox stay.
+    /// Replaces the session; queues and inbox stay.
     pub fn set_session(&mut self, session: Session)
         ensures { self.new ≡ with_kept (deeds.with_session session self.old.kept) self.old }
     {
@@ -85,7 +87,7 @@ impl Connection {
     }
 
     /// Takes a piece of the peer's stream: its whole messages go into the inbox, one for each request
-    /// or reply, and nothing once the session is over, which takes no memory. An `Err` changes nothing.
+    /// or reply. Once the session is over nothing does, and no memory is taken. An `Err` changes nothing.
     pub fn feed(&mut self, piece: &[u8]) -> Result<(), NoMemory>
         ensures ok { OnOk result (self.new ≡ with_kept (fed_while_up piece.now self.old.kept) self.old) }
         ensures err { OnErr result (self.new ≡ self.old) }
@@ -107,6 +109,19 @@ impl Connection {
         match self.inbox.front() {
             Some(item) => Ok(Some(input_of(self.alloc, item)?)),
             None => Ok(None),
+        }
+    }
+
+    /// What a take leaves to do; takes no memory.
+    pub fn rest(&self) -> Rest
+        ensures { result ≡ rest_of (Some self.now.kept) }
+    {
+        if self.inbox.is_empty() {
+            Rest::Nothing
+        } else if self.side.joined().len() > BACKLOG_MAX {
+            Rest::Backlog
+        } else {
+            Rest::Messages
         }
     }
 
@@ -163,8 +178,8 @@ impl Connection {
         Ok(List::from_vec(bytes))
     }
 
-    /// The step of a tick, where its session has nothing to say or to do at it, and whether that is so;
-    /// where it is not, nothing changes. It takes no memory.
+    /// A tick that may be silent: where the session has nothing to say or to do, the tick is taken and the
+    /// answer is true; else nothing changes. It takes no memory.
     pub fn tick_quietly(&mut self, now: Tick) -> bool
         ensures quiet { result ≡ is_quiet now self.old.kept.session }
         ensures next { self.new ≡ with_kept (ticked_quietly now self.old.kept) self.old }

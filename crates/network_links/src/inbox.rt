@@ -71,7 +71,7 @@ fn items_of(alloc: Global, fed: &Fed) -> Result<VecDeque<Item>, NoMemory>
     Ok(items)
 }
 
-// A copy is fed, so that the framer is as before where memory lacks later.
+// A copy is fed, so that the framer is as before if memory runs out later.
 fn feed_copy(framer: &Framer, piece: &[u8]) -> Result<Step, NoMemory>
     ensures frames { IfOk result (λ step. step.fed.frames ≡ (feed_of framer.now piece.now).frames) }
     ensures framing { IfOk result (λ step. step.framer ≡ (feed_of framer.now piece.now).framing) }

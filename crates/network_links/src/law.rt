@@ -3,8 +3,8 @@ ghost use Rattle.network_links.specs.Lengths.{LengthsAreNumbers};
 ghost use Rattle.network_links.specs.Ends.{StepsKeepNumber};
 ghost use Rattle.network_links.specs.Rooms.{PutLeavesRoom, FirstLeavesRoom, LessLeavesRoom};
 
-/// Room that is kept in a queue goes from call to call: a message takes what was kept for it, the first
-/// one of a session's own in an empty queue takes none, and what leaves takes none.
+/// Room that a queue keeps lasts from call to call: a message uses the room that was kept for it; the first
+/// message of a session's own in an empty queue uses none of it, and nor does a message that leaves.
 pub fn room_is_left()
     ensures put { PutLeavesRoom }
     ensures first { FirstLeavesRoom }

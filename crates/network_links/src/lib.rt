@@ -1,6 +1,6 @@
-//! What stands where in a network, as its settings say, and what is on its way in it, whatever its elements are: the elements in rising
-//! order, the children of the parent, neighbours, routes, policies and classes of peers; its clock, its outside peers and its inner links with
-//! their sessions, and the messages of a step.
+//! Who is connected to whom in a network, from its settings: the elements in rising order, the children of the parent, neighbours, routes,
+//! policies and classes of peers. And the state between them, whatever the elements are: the clock, the connections of outside peers, the inner
+//! links with their sessions and queues, and the messages of a step.
 #![tactic(auto)]
 
 mod access;
@@ -14,6 +14,7 @@ mod link;
 mod links;
 mod own;
 mod peers;
+mod rest;
 mod routes;
 mod rows;
 mod session;
@@ -30,6 +31,7 @@ pub use link::{End, Link};
 pub use own::{ShortText, lost_text, our_offer, own_text};
 pub use peers::Drained;
 pub use plant_model as model;
+pub use rest::Rest;
 pub use routes::routes_of;
 pub use rows::{class_of, deny_at};
 pub use session::any_fall;
@@ -39,5 +41,5 @@ pub use traffic::Traffic;
 /// capability.
 pub const OWN_LENGTH: usize = 12;
 
-/// The length, in octets, of what a lost request is answered.
+/// The length, in octets, of the answer to a lost request.
 pub const ANSWER_LENGTH: usize = 32;

@@ -86,14 +86,14 @@ impl Link {
         }
     }
 
-    /// The session at an end, of which a copy can be stepped and kept or not.
+    /// The session at an end. A copy of it can be stepped, and then kept or dropped.
     pub fn session(&self, at: End) -> Session
         ensures { result ≡ (at_end at self.now).kept.session }
     {
         self.side(at).session()
     }
 
-    /// A later state of the session at an end, which has the number that it had.
+    /// Sets a later state of the session at an end; its number stays the same.
     pub fn set_session(&mut self, at: End, session: Session)
         requires { session.offer.sid ≡ (at_end at self.old).kept.session.offer.sid }
         ensures { self.new ≡ set_end at (with_kept (record (at_end at self.old).kept { session = session }) (at_end at self.old)) self.old }
@@ -181,7 +181,7 @@ impl Link {
         self.upper.clear();
     }
 
-    /// The number of the session that comes after that of now at an end.
+    /// The number of the session after the present one at an end.
     pub fn next_sid(&self, at: End) -> u8
         ensures { result ≡ next_sid (at_end at self.now).kept.session }
     {
@@ -191,7 +191,7 @@ impl Link {
         }
     }
 
-    /// The session at an end is made anew and begun: it sends its Open. It takes no memory.
+    /// Makes a new session at an end and begins it: it sends its Open. It takes no memory.
     pub fn begin(&mut self, at: End, sid: u8, now: Tick)
         requires { Covers (at_end at self.old).spare 1 OWN_LENGTH }
         ensures kept { (at_end at self.new).kept ≡ begun sid now (at_end at self.old).kept }
@@ -210,8 +210,8 @@ impl Link {
         }
     }
 
-    /// The step of a tick, where the session at an end has nothing to say or to do at it, and whether
-    /// that is so; where it is not, nothing changes. It takes no memory.
+    /// A tick that may be silent: where the session at an end has nothing to say or to do, the tick is taken
+    /// and the answer is true; else nothing changes. It takes no memory.
     #[tactic(auto, using(crate::proofs::QuietSideLemmas::quiet_keeps_number))]
     pub fn tick_quietly(&mut self, at: End, now: Tick) -> bool
         ensures quiet { result ≡ is_quiet now (at_end at self.old).kept.session }

@@ -64,7 +64,7 @@ fn end_of(link: &Link, at: As) -> End
     }
 }
 
-// Where what one end sends to another stands.
+// The link on which one end sends to another, and that end.
 fn place_of(links: &[Link], at: As, to: As) -> Option<LinkEnd>
     ensures { MatchOption result (link_at at to links.now ≡ None) (λ p. IsPlace at to p.link p.end links.now) }
 {
@@ -146,7 +146,7 @@ impl Links {
         }
     }
 
-    /// Puts the session at this end of the link in place of the one that stands there.
+    /// Replaces the session at this end of the link.
     pub fn set_session(&mut self, at: As, to: As, session: Session)
         requires linked { has_adjacency at to (row_of self.old).adjacencies ≡ true }
         requires sid { session.offer.sid ≡ ((row_of self.old).sides at to).kept.session.offer.sid }
@@ -178,7 +178,7 @@ impl Links {
         }
     }
 
-    /// Takes the first message on its way between these two off the link, where there is one.
+    /// Drops the first message on its way from one end to the other, where there is one.
     pub fn drop_first(&mut self, from: As, to: As)
         ensures { SideChanges from to DropsFirst (row_of self.old) (row_of self.new) }
     {
@@ -208,7 +208,7 @@ impl Links {
         }
     }
 
-    /// The number of the session that comes after that of now.
+    /// The number of the session after the present one.
     pub fn next_sid(&self, at: As, to: As) -> u8
         ensures { result ≡ next_sid ((row_of self.now).sides at to).kept.session }
     {
@@ -218,7 +218,7 @@ impl Links {
         }
     }
 
-    /// Makes room in the queue of an end; refuses where there is no link.
+    /// Makes room in the queue of an end; fails where there is no link.
     pub fn reserve(&mut self, at: As, to: As, messages: usize, bytes: usize) -> Result<(), NoMemory>
         ensures { SideChanges at to (Reserves messages bytes result) (row_of self.old) (row_of self.new) }
     {
@@ -239,7 +239,7 @@ impl Links {
         }
     }
 
-    /// The session at an end is made anew and begun: it sends its Open.
+    /// Makes a new session at an end and begins it: it sends its Open.
     pub fn begin(&mut self, at: As, to: As, sid: u8, now: Tick)
         requires { Covers ((row_of self.old).sides at to).spare 1 OWN_LENGTH }
         ensures { SideChanges at to (Begins sid now) (row_of self.old) (row_of self.new) }
@@ -250,8 +250,8 @@ impl Links {
         }
     }
 
-    /// The step of a tick, where the session of this end has nothing to say or to do at it, and whether
-    /// that is so; where it is not, nothing changes.
+    /// A tick that may be silent: where the session of this end has nothing to say or to do, the tick is taken
+    /// and the answer is true; else nothing changes.
     pub fn tick_quietly(&mut self, at: As, to: As, now: Tick) -> bool
         requires { has_adjacency at to (row_of self.old).adjacencies ≡ true }
         ensures quiet { result ≡ is_quiet now ((row_of self.old).sides at to).kept.session }

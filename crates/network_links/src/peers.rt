@@ -8,12 +8,14 @@ ghost use Rattle.network_links.specs.Accesses.{ConnectsGuest, DrainsGuest, Feeds
 ghost use Rattle.network_links.specs.Ends.{is_left_out};
 ghost use Rattle.network_links.specs.Flow.{drop_first, inbox_of, out_of};
 ghost use Rattle.network_links.specs.Peers.{Changes, guests_of, no_guests};
+ghost use Rattle.network_links.specs.Rests.{rest_of};
 
 use crate::access::Access;
 use crate::accesses::{
     connect, drain, drop_first, empty_inbox, feed, put, reserve, set_session, shut, tick_quietly,
 };
 use crate::connection::Connection;
+use crate::rest::Rest;
 use dom_base::{Bytes, NoMemory, Tick};
 use pcep_session::{Input, Own, Session};
 use plant_model::Refused;
@@ -43,7 +45,7 @@ pub struct Drained {
 }
 
 impl Peers {
-    /// So many peers, none of which was ever open.
+    /// A table of so many peers, none of them ever open.
     pub fn new(alloc: Global, count: usize) -> Result<Peers, NoMemory>
         ensures { IfOk result (λ peers. guests_of peers ≡ no_guests count) }
     {
@@ -110,6 +112,16 @@ impl Peers {
         }
     }
 
+    /// What a take leaves to do for a peer; nothing where its connection is closed.
+    pub fn rest(&self, peer: u32) -> Rest
+        ensures { result ≡ rest_of ((guests_of self.now).accesses peer).connection }
+    {
+        match self.connection(peer) {
+            Some(connection) => connection.rest(),
+            None => Rest::Nothing,
+        }
+    }
+
     /// Whether a message of the session itself is left out.
     pub fn leaves_out(&self, peer: u32, ticks: bool, own: &Own) -> bool
         ensures { result ≡ is_left_out ticks own.now (out_of ((guests_of self.now).accesses peer).connection) }
@@ -120,7 +132,7 @@ impl Peers {
         }
     }
 
-    /// Puts the peer's session in place of the one that stands there.
+    /// Replaces the peer's session.
     pub fn set_session(&mut self, peer: u32, session: Session)
         ensures { Changes peer (Goes (deeds.with_session session)) (guests_of self.old) (guests_of self.new) }
     {
@@ -173,7 +185,7 @@ impl Peers {
         }
     }
 
-    /// Makes room in the queue of a peer; refuses where it is closed.
+    /// Makes room in the queue of a peer; fails where it is closed.
     pub fn reserve(&mut self, peer: u32, messages: usize, bytes: usize) -> Result<(), NoMemory>
         ensures { Changes peer (GrowsGuest messages bytes result) (guests_of self.old) (guests_of self.new) }
     {
@@ -215,8 +227,8 @@ impl Peers {
         }
     }
 
-    /// The step of a tick, where the peer's session has nothing to say or to do at it or the peer is
-    /// closed, and whether that is so; where it is not, nothing changes.
+    /// A tick that may be silent: where the peer's session has nothing to say or to do, or the peer is closed,
+    /// the tick is taken and the answer is true; else nothing changes.
     pub fn tick_quietly(&mut self, peer: u32, now: Tick) -> bool
         ensures { Changes peer (TicksGuest now result) (guests_of self.old) (guests_of self.new) }
     {

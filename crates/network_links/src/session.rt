@@ -1,4 +1,4 @@
-//! What is asked of sessions and of their steps.
+//! Questions about sessions and their steps.
 ghost use Rattle.std.specs.Prelude.{◌≡◌, ◌||◌};
 ghost use Rattle.pcep_session.specs.Listed.{listed};
 ghost use Rattle.pcep_session.specs.Table.{new_state, turn_of};
@@ -38,7 +38,7 @@ fn is_silent(session: &Session, input: Input) -> bool
     is_quiet(&actions)
 }
 
-/// Whether a session is over: it neither begins, nor ends where something comes that cannot be read.
+/// Whether a session is over: it takes no action when it is begun, and none on bytes that cannot be read.
 #[tactic(auto, using(crate::proofs::StepLemmas::over_is))]
 pub(crate) fn is_over(session: &Session) -> bool
     ensures { result ≡ events.is_down session.now.phase }

@@ -55,7 +55,7 @@ impl Side {
         self.session
     }
 
-    /// Puts the session in place of the one that stands there; the queue stays.
+    /// Replaces the session; the queue stays.
     pub fn set_session(&mut self, session: Session)
         ensures { self.new ≡ with_kept (record self.old.kept { session = session }) self.old }
     {
@@ -105,7 +105,7 @@ impl Side {
         ticks && is_keepalive && !self.out.is_empty()
     }
 
-    /// Makes the session anew and begins it: its Open is sent. Takes no memory.
+    /// Makes a new session and begins it: its Open is sent. Takes no memory.
     pub fn begin(&mut self, sid: u8, now: Tick)
         requires { Covers self.old.spare 1 OWN_LENGTH }
         ensures kept { self.new.kept ≡ begun sid now self.old.kept }
@@ -145,8 +145,8 @@ impl Side {
         self.out.joined()
     }
 
-    /// The step of a tick, where the session has nothing to say or to do at it, and whether that is so;
-    /// where it is not, nothing changes. It takes no memory.
+    /// A tick that may be silent: where the session has nothing to say or to do, the tick is taken and the
+    /// answer is true; else nothing changes. It takes no memory.
     pub fn tick_quietly(&mut self, now: Tick) -> bool
         ensures quiet { result ≡ is_quiet now self.old.kept.session }
         ensures next { self.new ≡ with_kept (sender_ticked now self.old.kept) self.old }

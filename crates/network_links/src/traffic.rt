@@ -1,4 +1,4 @@
-//! What is on its way in a network.
+//! The state between the members of a network.
 ghost use Rattle.std.specs.Prelude.{◌≡◌, ◌<◌, [], length, not, slice_get, Some, None, IfOk, OnOk, is_some};
 ghost use Rattle.std.specs.Option.{option_map};
 ghost use Rattle.plant_text.specs.Settings.{has_adjacency};
@@ -13,11 +13,13 @@ ghost use Rattle.network_links.specs.Carried.{flow_of};
 ghost use Rattle.network_links.specs.Flow.{ClearsSaid, Clears, Connects, DropsFirstAt, GrowsAt, GrowsSaid, IsBare, KeepsRoomAt, MaySet, Puts, Begins, change_access, first_at, queue_at, room_at, session_at, set_session, set_session_at, shut};
 ghost use Rattle.network_links.specs.Happenings.{DrainsIn, FeedsIn};
 ghost use Rattle.network_links.specs.Quiet.{IsReached, is_quiet_at, ticked_at};
+ghost use Rattle.network_links.specs.Rests.{rest_of};
 
 use crate::OWN_LENGTH;
 use crate::links::Links;
 use crate::own::{our_offer, own_text};
 use crate::peers::{Drained, Peers};
+use crate::rest::Rest;
 use dom_base::{As, NoMemory, Peer, Tick};
 use pcep_session::{Input, Own, Session};
 use plant_model::Refused;
@@ -26,7 +28,7 @@ use std::alloc::Global;
 use std::marker::Model;
 
 /// The clock, the connections of the outside peers, the inner links, and the messages that the last
-/// step put into queues. What takes no memory says no `Err`.
+/// step put into queues. A call that takes no memory never answers `Err`.
 pub struct Traffic {
     alloc: Global,
     clock: Tick,
@@ -111,6 +113,13 @@ impl Traffic {
         self.peers.holder(peer)
     }
 
+    /// What a take leaves to do for an outside peer; nothing where its connection is closed. It takes no memory.
+    pub fn rest(&self, peer: u32) -> Rest
+        ensures { result ≡ rest_of ((flow_of self.now).accesses peer).connection }
+    {
+        self.peers.rest(peer)
+    }
+
     /// Drops all that waits in the peer's inbox.
     pub fn empty_inbox(&mut self, peer: u32)
         ensures { (flow_of self.new) ≡ change_access peer (deeds.with_inbox []) (flow_of self.old) }
@@ -185,14 +194,14 @@ impl Traffic {
         self.links.clear(a, b);
     }
 
-    /// The number of the session that comes after that of now.
+    /// The number of the session after the present one.
     pub fn next_sid(&self, at: As, to: As) -> u8
         ensures { result ≡ next_sid ((flow_of self.now).sessions at to) }
     {
         self.links.next_sid(at, to)
     }
 
-    /// The session at an end of a link is made anew and begun: it says its Open.
+    /// Makes a new session at an end of a link and begins it: it says its Open.
     pub fn begin_end(&mut self, at: As, to: As, sid: u8)
         requires there { Covers ((flow_of self.old).room.inner at to) 1 OWN_LENGTH }
         requires said { Covers (flow_of self.old).room.said 1 OWN_LENGTH }
@@ -216,8 +225,8 @@ impl Traffic {
         }
     }
 
-    /// A later state of the session of a member with a peer that is open; at an end of a link it has the
-    /// number that it had.
+    /// Sets a later state of the session of a member with an open peer; at an end of a link its number stays
+    /// the same.
     pub fn set_session(&mut self, at: As, to: Peer, session: Session)
         requires { MaySet at to session (flow_of self.old) }
         ensures { (flow_of self.new) ≡ set_session_at at to session (flow_of self.old) }
@@ -228,7 +237,7 @@ impl Traffic {
         }
     }
 
-    /// The first of what waits for a member from a peer, as the session takes it. It stays there.
+    /// The first item that waits for a member from a peer, as the session takes it. It stays there.
     pub fn first_input(&self, at: As, from: Peer) -> Result<Option<Input>, NoMemory>
         ensures { IfOk result (λ input. input ≡ option_map (deeds.input_of wire) (first_at at from (flow_of self.now))) }
     {
@@ -238,7 +247,7 @@ impl Traffic {
         }
     }
 
-    /// Drops the first of what waits for a member from a peer.
+    /// Drops the first item that waits for a member from a peer.
     pub fn drop_first(&mut self, at: As, from: Peer)
         ensures { DropsFirstAt at from (flow_of self.old) (flow_of self.new) }
     {
@@ -260,7 +269,7 @@ impl Traffic {
     }
 
     /// Makes room in the queue from a member to a peer for so many more messages, of so many bytes
-    /// together, besides those of the session itself. It refuses too where there is no such queue.
+    /// together, besides those of the session itself. It also fails where there is no such queue.
     pub fn reserve(
         &mut self,
         at: As,
@@ -277,7 +286,7 @@ impl Traffic {
         }
     }
 
-    /// Makes room in what is said.
+    /// Makes room in the list of said messages.
     pub fn reserve_said(&mut self, messages: usize, bytes: usize) -> Result<(), NoMemory>
         ensures grows { GrowsSaid (flow_of self.old) (flow_of self.new) }
         ensures ok { OnOk result (Covers (flow_of self.new).room.said messages bytes) }
@@ -314,8 +323,8 @@ impl Traffic {
 
     // ---- ticks
 
-    /// The step of a tick, where the session of a member with a peer has nothing to say or to do at it, as
-    /// with one that is closed, and whether that is so; where it is not, nothing changes.
+    /// A tick that may be silent: where the session of a member with a peer has nothing to say or to do, or the
+    /// peer is closed, the tick is taken and the answer is true; else nothing changes.
     pub fn tick_quietly(&mut self, at: As, to: Peer, now: Tick) -> bool
         requires { IsReached at to (flow_of self.old) }
         ensures quiet { result ≡ is_quiet_at now at to (flow_of self.old) }

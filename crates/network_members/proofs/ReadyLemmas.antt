@@ -1,12 +1,18 @@
 -- Jobs that can be solved, by their place among those of all elements.
-use Rattle.std.proofs.Common.{◌≡◌, ◌<◌, ◌≤◌, ◌-◌, ℕ, zero, suc, Some, None, List, [], ◌∷◌, ◌++◌, length, map, drop, get_or, arith, refl, sym, ◌∙◌, ap}
+use Rattle.std.proofs.Common.{◌≡◌, ◌<◌, ◌≤◌, ◌-◌, ℕ, zero, suc, Bool, true, false, cond, Option, Some, None, List, [], ◌∷◌, ◌++◌, length, map, drop, get_or, arith, refl, sym, ◌∙◌, ap, subst}
 use Rattle.std.specs.Prelude.{slice_get}
-use Rattle.pce_common.specs.plant_model.Types.{As}
-use Rattle.pce_common.specs.plant_model.Element.{ready_numbers}
+use Rattle.plant_text.specs.Names.{parent_as, same_as}
+use Rattle.pce_common.specs.plant_model.Types.{As, NetworkParts}
+use Rattle.pce_common.specs.plant_model.Element.{Element, ready_numbers}
+use Rattle.pce_common.specs.plant_model.Parent as parent
+use Rattle.pce_common.specs.plant_model.State.{State}
+use Rattle.pce_common.specs.Rounds.{IsNext, asked_jobs, is_solvable, jobs_by}
+use Rattle.pce_common.specs.declared.rounds.AskedJob.{AskedJob}
+use Rattle.pce_common.specs.declared.rounds.Behind.{Behind}
 use Rattle.pce_common.specs.plant_model.Events.{jobs_at}
 use Rattle.pce_element.specs.Seen.{Seen}
-use Rattle.network_members.specs.Elements.{own_of}
-use Rattle.network_members.specs.Ready.{jobs_in}
+use Rattle.network_members.specs.Elements.{at_domain, element_or, elements_in, own_of}
+use Rattle.network_members.specs.Ready.{asked_in, jobs_in}
 
 past_end : {A : Type 0} → (xs : List A) (k : ℕ) → slice_get xs k ≡ None → length xs ≤ k
 past_end [] k none = omega arith
@@ -62,3 +68,28 @@ module _ {P : Type 0} {S : Type 0} where
   own_at [] i e a inside is at = absurd (omega arith)
   own_at (x ∷ es) zero e a inside is at = at ∙ ap own_of (sym is)
   own_at (x ∷ es) (suc i) e a inside is at = own_at es i e a (omega arith) is at
+
+-- ---- the next one
+
+module _ {P : Type 0} {S : Type 0} where
+  asked_as : (n : NetworkParts) (clock : ℕ) (d : As) (o : Option (Seen P S)) → asked_in o ≡ jobs_by is_solvable (element_or n clock d o).pending.rows
+  asked_as n clock d None = refl
+  asked_as n clock d (Some e) = refl
+
+  -- of an element
+  pub next_below : (n : NetworkParts) (clock : ℕ) (d : As) (es : List (Seen P S)) (s : State P S) (behind : Behind) (found : Option AskedJob) → same_as d parent_as ≡ false → s.elements ≡ elements_in n clock es →
+      IsNext behind (asked_in (at_domain d es)) found → IsNext behind (asked_jobs d s) found
+  next_below n clock d es s behind found below is next =
+      subst (λ (js : List AskedJob). IsNext behind js found)
+      (asked_as n clock d (at_domain d es) ∙ ap (λ (ks : As → Element P S). jobs_by is_solvable (ks d).pending.rows) (sym is)
+      ∙ ap (λ (b : Bool). cond b (jobs_by parent.is_ready s.parent.pending.rows) (jobs_by is_solvable (s.elements d).pending.rows)) (sym below))
+      next
+
+  -- of the parent
+  pub next_above : (d : As) (p : parent.Parent) (s : State P S) (behind : Behind) (found : Option AskedJob) → same_as d parent_as ≡ true → s.parent ≡ p →
+      IsNext behind (jobs_by parent.is_ready p.pending.rows) found → IsNext behind (asked_jobs d s) found
+  next_above d p s behind found above is next =
+      subst (λ (js : List AskedJob). IsNext behind js found)
+      (ap (λ (k : parent.Parent). jobs_by parent.is_ready k.pending.rows) (sym is)
+      ∙ ap (λ (b : Bool). cond b (jobs_by parent.is_ready s.parent.pending.rows) (jobs_by is_solvable (s.elements d).pending.rows)) (sym above))
+      next

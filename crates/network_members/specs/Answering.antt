@@ -96,7 +96,7 @@ abbrev pub number_of : Done → ℕ
 number_of (done.Domain x) = x.ask.number
 number_of (done.Border x) = x.job.number
 
--- what was solved is the job of the member's request of its number, where that one is ready
+-- the solved job is the job of the member's request of its number, where that one is ready
 abbrev pub IsOwnDone : Tiers Pin Segment → As → Done → Type 0
 IsOwnDone t d (done.Domain x) = (same_as d parent_as ≡ false) × IfSome (at_domain d t.elements) (λ e. IsOwnJob e x)
 IsOwnDone t d (done.Border x) = (same_as d parent_as ≡ true) × IfSome (border_job t x.job.number) (λ j. x.job ≡ j)
@@ -115,7 +115,7 @@ pub record ElementAnswers (n : NetworkParts) (now : ℕ) (d : As) (k : ℕ) (ms 
 abbrev pub MemberAnswers : NetworkParts → ℕ → As → ℕ → Membership Pin Segment → Replied Pin Segment → Type 0
 MemberAnswers n now d k ms r = ElementAnswers n now d k ms r ⊎ ((d ≡ parent_as) × ParentAnswers n k ms r)
 
--- what a plan was made for, where that was a solved job
+-- the solved job that a plan was made for, if there is one
 abbrev pub back_of : {W : Type 0} {P : Type 0} {S : Type 0} → MemberPlan W P S Solution → Option Done
 back_of (plan.Element d p) = option_map done.Domain p.solved
 back_of (plan.Parent p) = option_map done.Border p.solved

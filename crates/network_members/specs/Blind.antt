@@ -18,7 +18,7 @@ use Rattle.network_members.specs.Tiers.{Tiers, Become, FitsIn, lost_in, members_
 use Rattle.network_members.specs.declared.plan.MemberPlan.{MemberPlan}
 use Rattle.network_members.specs.declared.plan.MemberPlan.TheVariants as plan
 
--- what a domain pins of which nothing is known
+-- the pin of a domain without topologies
 abbrev pub nothing_first : As → Nothing
 nothing_first d = tt
 
@@ -44,13 +44,13 @@ pub record Solves {W : Type 0} {D : Type 0} (d : As) (k : ℕ) (rows : List Bord
   pub answers : IfOk result (λ plan. MemberAnswers old.network now d k rows (members_of nothing_first old) (record { members = next_by nothing_first new plan; outputs = sent_by plan }))
   pub why : IfErr result (IsRefusedFor old.network d k (members_of nothing_first old))
 
--- what is told of an element's answer
+-- the result of an element's answer, as that of a member
 abbrev pub told_below : {W : Type 0} {D : Type 0} → As → Result (Option (Planned Nothing Nothing D)) NoMemory → Result (MemberPlan W Nothing Nothing D) Refused
 told_below d (Ok (Some x)) = Ok (plan.Element d x)
 told_below d (Ok None) = Err refused.NoSuchJob
 told_below d (Err why) = Err refused.NoMemory
 
--- why a job of the parent is not solved: there is none, or memory lacks
+-- why a job of the parent is not solved: there is none, or memory ran out
 abbrev pub IsUnsolved : Option BorderJob → Refused → Type 0
 IsUnsolved o refused.NoSuchJob = o ≡ None
 IsUnsolved o refused.NoMemory = Unit {0}

@@ -1,4 +1,4 @@
--- What the elements are, by their fields.
+-- The elements as contracts see them, by their fields.
 use Rattle.std.specs.Prelude.{◌≡◌, List, map}
 use Rattle.pce_common.specs.plant_model.Types.{As}
 use Rattle.pce_element.specs.Seen.{Seen}

@@ -13,6 +13,6 @@ pub mod ElementFields
 pub mod Ready
 pub mod Fresh
 pub mod Heeding
--- handed on from below
+-- re-exported from below
 pub use Rattle.pce_element.specs as pce_element
 pub use Rattle.pce_parent.specs as pce_parent

@@ -1,4 +1,4 @@
--- What the elements of a network and the parent above them are, by their fields.
+-- The elements of a network and the parent above them as contracts see them, by their fields.
 use Rattle.std.specs.Prelude.{ℕ, List}
 use Rattle.pce_common.specs.plant_model.Types.{NetworkParts}
 use Rattle.pce_element.specs.Seen.{Seen}

@@ -1,4 +1,4 @@
--- The elements of a network with topologies and the parent above them: the same words, of that world.
+-- The elements of a network with topologies and the parent above them: the same definitions, for that world.
 use Rattle.std.specs.Prelude.{List}
 use Rattle.pce_common.specs.plant_model.Types.{As, NetworkParts}
 use Rattle.disclosure.specs.Shown.{open_of}

@@ -24,7 +24,7 @@ impl<W: World> Elements<W> {
         }
     }
 
-    /// What the element of a domain makes of a message, which changes nothing yet.
+    /// Plans what a message changes in the element of a domain; nothing changes yet.
     pub fn take(
         &mut self,
         at: As,

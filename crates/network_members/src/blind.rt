@@ -40,7 +40,7 @@ fn solve_job(alloc: Global, parent: &Parent, number: u64) -> Result<BorderSolved
     Ok(solved)
 }
 
-// What is told of an element's answer.
+// The result of an element's answer, as that of a member.
 fn told_below(
     at: As,
     answer: Result<Option<Plan<Blind>>, NoMemory>,

@@ -14,7 +14,7 @@ use pce_element::{Element, World};
 use plant_text::{ElementRow, NetworkParts};
 use std::alloc::Global;
 
-/// What the settings say of one element.
+/// The settings of one element.
 #[derive(Clone, Copy)]
 pub(crate) struct Figures {
     pub id: Addr,

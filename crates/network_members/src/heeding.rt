@@ -1,4 +1,4 @@
-//! What an element heeds of what an outside peer tells it.
+//! What an element heeds of an outside peer's messages.
 ghost use Rattle.std.specs.Prelude.{◌≡◌, IfOk};
 ghost use Rattle.pce_common.specs.plant_model.Outside.{heeded_by, heeded_in};
 ghost use Rattle.pce_common.specs.plant_model.RealWire.{wire};
@@ -18,8 +18,8 @@ use std::collections::VecDeque;
 const HOPS: usize = 3;
 
 // What is kept of a reply, by the number of domains that the request was sent on through. One for which
-// nothing waits stays as it is. No memory holds a request through so many domains that their hops are not
-// counted.
+// nothing waits stays as it is. The count of hops cannot overflow, since no memory holds a request through
+// so many domains.
 fn heed_reply(alloc: Global, sent: Option<usize>, reply: Reply) -> Result<Reply, NoMemory>
     ensures { IfOk result (λ heeded. heeded ≡ heeded_by wire sent reply) }
 {
@@ -33,8 +33,8 @@ fn heed_reply(alloc: Global, sent: Option<usize>, reply: Reply) -> Result<Reply,
 }
 
 impl<W: World> Elements<W> {
-    // Through how many domains beyond its own the element of a domain sent the request on that waits for the
-    // answer to an id of an outside peer.
+    // The request that waits at the element of a domain for the answer to an id of an outside peer: through
+    // how many domains beyond the element's own it was sent on.
     fn sent(&self, at: As, peer: u32, id: u32) -> Option<usize>
         ensures { result ≡ sent_at peer (at_domain at self.now) id }
     {
@@ -58,7 +58,7 @@ impl<W: World> Elements<W> {
     }
 
     /// What the element of a domain is given of a message of an outside peer: of a reply to a request that
-    /// it sent on there what is kept by sifting, and all else as it came.
+    /// it sent on there what sifting keeps, and any other message as it came.
     pub fn heed(&self, at: As, peer: u32, message: Message) -> Result<Message, NoMemory>
         ensures { IfOk result (λ heeded. heeded ≡ heeded_in wire (sent_at peer (at_domain at self.now)) message) }
     {

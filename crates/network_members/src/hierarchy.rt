@@ -7,6 +7,7 @@ ghost use Rattle.pce_common.specs.plant_model.Events.{has_jobs, ready_jobs};
 ghost use Rattle.pce_common.specs.plant_model.Parent.{ready_numbers};
 ghost use Rattle.pce_common.specs.plant_model.State.{State};
 ghost use Rattle.pce_common.specs.plant_model.Settings.{family};
+ghost use Rattle.pce_common.specs.Rounds.{IsNext, asked_jobs};
 ghost use Rattle.pce_parent.specs.Seen.{IsNew};
 ghost use Rattle.pce_parent.specs.Solution.{IsWeighed};
 ghost use Rattle.network_members.specs.Fresh.{AreNew, begun, parent_id};
@@ -15,6 +16,7 @@ ghost use Rattle.network_members.specs.Tiers.{lost_in, members_of};
 use crate::elements::Elements;
 use dom_base::{Addr, As, NoMemory, Tick};
 use network_links::{adjacencies_of, children_of};
+use pce_common::{AskedJob, Behind};
 use pce_element::World;
 use pce_parent::{Parent, copy_links};
 use plant_text::{Network, NetworkParts};
@@ -123,7 +125,7 @@ impl<W: World> Hierarchy<W> {
         self.network.parts()
     }
 
-    /// The settings as the value that they came in.
+    /// The settings, as the value that was passed in.
     pub fn network(&self) -> &Network
         ensures { result.now ≡ self.now.network }
     {
@@ -150,5 +152,16 @@ impl<W: World> Hierarchy<W> {
             return Some((As(0), number));
         }
         self.elements.ready(k - count_above(&self.parent, k))
+    }
+
+    /// The next job of a member, in the order of those who asked and then of the numbers; takes no memory.
+    pub fn next_job(&self, at: As, behind: Behind) -> Option<AskedJob>
+        ensures { (s : State W.Pin W.Segment) → s.elements ≡ (members_of W.first self.now).elements → s.parent ≡ (members_of W.first self.now).parent → IsNext behind (asked_jobs at s) result }
+    {
+        if is_parent(at) {
+            self.parent.next_job(behind)
+        } else {
+            self.elements.next_job(at, behind)
+        }
     }
 }

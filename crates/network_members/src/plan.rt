@@ -14,7 +14,7 @@ pub enum MemberPlan<W: World> {
 }
 
 impl MemberPlan<Topologies> {
-    /// Gives the plan up, and hands back what was solved, where it was planned for that; takes no memory.
+    /// Gives the plan up, and returns the solved job that it was planned for, if there is one; takes no memory.
     pub fn back(self) -> Option<Done>
         ensures { result ≡ back_of self }
     {

@@ -1,10 +1,13 @@
 //! Which jobs of the elements can be solved.
 ghost use Rattle.std.specs.Prelude.{◌≡◌, ◌≤◌, length, slice_get};
 ghost use Rattle.pce_common.specs.plant_model.Element.{ready_numbers};
-ghost use Rattle.network_members.specs.Ready.{jobs_in};
+ghost use Rattle.pce_common.specs.Rounds.{IsNext};
+ghost use Rattle.network_members.specs.Elements.{at_domain};
+ghost use Rattle.network_members.specs.Ready.{asked_in, jobs_in};
 
 use crate::elements::Elements;
 use dom_base::As;
+use pce_common::{AskedJob, Behind};
 use pce_element::{Element, World};
 
 // How many requests of an element can be solved.
@@ -35,5 +38,15 @@ impl<W: World> Elements<W> {
             left -= count_ready(element, left);
         }
         None
+    }
+
+    /// The next job of the element of a domain, in the order of those who asked and then of the numbers; takes no memory.
+    pub fn next_job(&self, at: As, behind: Behind) -> Option<AskedJob>
+        ensures { IsNext behind (asked_in (at_domain at self.now)) result }
+    {
+        match self.at(at) {
+            Some(element) => element.next_job(behind),
+            None => None,
+        }
     }
 }

@@ -6,5 +6,6 @@ mod Opening
 mod Repeats
 mod Starts
 pub mod WatchTurns
+pub mod Workings
 pub mod CrossingParts
 pub mod Crossing

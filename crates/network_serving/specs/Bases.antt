@@ -1,4 +1,4 @@
--- What stands behind the tasks of a server.
+-- The desks, settings and published lists that the tasks of a server stand on.
 use Rattle.std.specs.Prelude.{◌≡◌, ℕ, List, [], ◌∷◌, ◌++◌, map, Option, Some, None}
 use Rattle.dom_edge.specs.Stores.{Files}
 use Rattle.logbook.specs.Pages.{Book}

@@ -8,6 +8,7 @@ pub mod Runs
 pub mod Ends
 pub mod Tasks
 pub mod Watching
+pub mod Working
 pub mod Running
 pub mod SpawnerStates
 pub mod Spawners

@@ -1,14 +1,12 @@
 -- What a task does in a run: just what the call does that its kind makes, over its own fields.
-use Rattle.std.specs.Prelude.{◌≡◌, ◌↔◌, ℕ, [], List, Option, Some}
+use Rattle.std.specs.Prelude.{◌≡◌, ◌↔◌, ◌-◌, ◌^◌, ℕ, List, Option, Some}
 use Rattle.dom_base.specs.declared.addr.Addr.{Addr}
-use Rattle.dom_base.specs.declared.names.As.{As}
 use Rattle.dom_edge.specs.Heeding.{Sides}
 use Rattle.dom_edge.specs.Stores.{Files}
 use Rattle.ted_watch.specs.Watch.{known, published}
 use Rattle.server_loops.specs.Serving.{CarriesGuided, Heard, ServesPort, heard}
 use Rattle.server_loops.specs.declared.port.Ran.{Ran}
 use Rattle.server_loops.specs.declared.port.Ran.TheVariants as ran
-use Rattle.server_loops.specs.WorkerTurns.{Runs}
 use Rattle.server_loops.specs.declared.working.Worked.{Worked}
 use Rattle.server_loops.specs.declared.working.Worked.TheVariants as worked
 use Rattle.server_loops.specs.Operating.{Operates, context, side, sides, progress}
@@ -23,6 +21,7 @@ use Rattle.network_serving.specs.declared.running.TaskEnd.TheVariants as end
 use Rattle.network_serving.specs.declared.tasks.Task.{Task}
 use Rattle.network_serving.specs.declared.tasks.Task.TheVariants as task
 use Rattle.network_serving.specs.Watching.{WatchesPort}
+use Rattle.network_serving.specs.Working.{WorksOn}
 
 -- what is told of the outside: of a listener, of a store of files, of an input and of an output
 pub record Outside (K F I O : Type 0) : Type 0 where
@@ -67,7 +66,7 @@ module _ {K F I O R : Type 0} (x : Outside K F I O) (turns : ℕ) where
   RunsTask (end.Ran e) (task.Carry links desk) (task.Carry links' desk') =
       (links' ≡ links) × CarriesGuided links turns e (desked_of (stand_of desk)) (desked_of (stand_of desk')) × RanAsShown e (stand_of desk')
   RunsTask (end.Worked e) (task.Work index cache bench) (task.Work index' cache' bench') =
-      (index' ≡ index) × ((passed : List (As × ℕ)) × Runs index turns e (bench_of bench) (bench_of bench') [] passed cache')
+      (index' ≡ index) × WorksOn index turns turns e (bench_of bench) (bench_of bench') cache'
       × (works (bench_of bench').calls ≡ works (benched_of (desk_of bench')).calls)
       × WorkedAsShown e (desk_of bench')
   RunsTask (end.Operated e) (task.Operate desk files network publisher input out) (task.Operate desk' files' network' publisher' input' out') =
@@ -81,3 +80,7 @@ module _ {K F I O R : Type 0} (x : Outside K F I O) (turns : ℕ) where
   RunsTask end.Watching (task.Watch rt watcher listener) (task.Watch rt' watcher' listener') =
       IsSameListener x listener' listener × WatchesPort turns (known watcher) (known watcher') (heard_of x listener) (heard_of x listener')
   RunsTask e old new = ⊥
+
+-- the first of these tasks became the second in a run of all turns that a number of 64 bits counts
+abbrev pub WasRun : {K F I O R : Type 0} → Outside K F I O → Task K F I O R → Task K F I O R → Type 0
+WasRun x old new = (end : TaskEnd) × RunsTask x (2 ^ 64 - 1) end old new

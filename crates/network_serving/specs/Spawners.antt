@@ -1,4 +1,4 @@
--- What a spawner stands for: the duties that it started, what stands behind their tasks, and how often it failed.
+-- The state of a spawner: the duties that it started, the bases of their tasks, and how often it failed.
 use Rattle.std.specs.Prelude.{ℕ, List}
 use Rattle.network_serving.specs.declared.duties.Duty.{Duty}
 use Rattle.network_serving.specs.declared.spawner.Spawner.{Spawner}

@@ -22,6 +22,7 @@ mod tasks;
 mod telling;
 mod threads;
 mod watching;
+mod working;
 
 pub use begun::Begun;
 pub use duties::Duty;

@@ -1,14 +1,14 @@
 //! The tasks of the peers, of the carrier and of the workers.
-ghost use Rattle.std.specs.Prelude.{◌≡◌, ◌≤◌, ◌<◌, ◌^◌, ◌++◌, ◌∷◌, [], All, IfErr, IfOk, OnOk, length, map};
+ghost use Rattle.std.specs.Prelude.{◌≡◌, ◌+◌, ◌≤◌, ◌<◌, ◌^◌, ◌++◌, ◌∷◌, [], All, IfErr, IfOk, OnOk, length, map};
 ghost use Rattle.std.specs.List.{flat_map};
 ghost use Rattle.dom_edge.specs.Causes.{HasCause, next_count};
 ghost use Rattle.dom_edge.specs.Opening.{IsOpenedAt, IsOpenedFor};
 ghost use Rattle.network_serving.specs.Tasks.{duty_of};
 ghost use Rattle.network_serving.specs.declared.duties.Duty.TheVariants.{Carry};
-ghost use Rattle.network_serving.specs.Duties.{both_ways, child_ways, first_duties, port_duties, ways_of, work_duties};
+ghost use Rattle.network_serving.specs.Duties.{both_ways, child_ways, first_count, first_duties, port_duties, ways_of, work_duties};
 ghost use Rattle.network_serving.specs.Ends.{RoseBy};
 ghost use Rattle.network_serving.specs.Ports.{dialled, heeded};
-ghost use Rattle.turn_desk.specs.Desks.{split_from, stand_of};
+ghost use Rattle.turn_desk.specs.Desks.{shares_at, split_from, stand_of};
 ghost use Rattle.network_serving.specs.Starting.{Adds, IsClosed, IsFresh, IsPlanEnd, IsPlanned, called, peer_ports};
 
 use crate::served::Served;
@@ -17,14 +17,15 @@ use cost_cache::Cache;
 use dom_base::{As, List, NoMemory};
 use dom_edge::{Listener, Opened, Ports};
 use network_links::children_of;
+use plant_lock::SplitError;
 use plant_text::{Comes, Network, NetworkParts, PeerRow};
 use std::alloc::Global;
 use std::sync::Wait;
 use std::time::Clock;
-use turn_desk::{TurnDesk, WorkBench};
+use turn_desk::{Circle, TurnDesk, WorkBench};
 
 // How many solved jobs each worker keeps.
-const CACHE_CAPACITY: usize = 64;
+pub(crate) const CACHE_CAPACITY: usize = 64;
 
 // Both ways of a link behind others.
 fn push_both(ways: &mut List<(As, As)>, a: As, b: As) -> Result<(), NoMemory>
@@ -72,12 +73,15 @@ pub(crate) fn desk_beside<R: Wait + Clock + Copy + Drop>(
     rt: R,
     desk: &mut TurnDesk<R>,
 ) -> Result<TurnDesk<R>, NoMemory>
+    requires seat { 1 < shares_at desk.old }
     ensures stand { stand_of desk.new ≡ stand_of desk.old }
     ensures ok { IfOk result (λ beside. stand_of beside ≡ split_from (stand_of desk.old)) }
+    ensures seat { OnOk result (shares_at desk.new + 1 ≡ shares_at desk.old) }
 {
     match desk.split(rt) {
         Ok(desk) => Ok(desk),
-        Err(_) => Err(NoMemory),
+        Err(SplitError::NoMemory) => Err(NoMemory),
+        Err(SplitError::NoSeat) => unreachable!(),
     }
 }
 
@@ -140,7 +144,9 @@ fn add_ports<Q: Ports, F: Drop, I: Drop, O: Drop, R: Wait + Clock + Copy + Drop>
     tasks: &mut Vec<Task<Q::Port, F, I, O, R>>,
 ) -> Result<(), Served>
     requires few { length peers.now < 2 ^ 32 }
+    requires seats { length peers.now < shares_at desk.old }
     requires fresh { IsFresh (stand_of desk.old) }
+    ensures seats { OnOk result (shares_at desk.new + length peers.now ≡ shares_at desk.old) }
     ensures stand { stand_of desk.new ≡ stand_of desk.old }
     ensures ok { OnOk result (Adds Q.Port.opened_at Q.Port.heeds Q.Port.dialled_to (stand_of desk.old) tasks.old.items tasks.new.items (port_duties 0 peers.now)) }
     ensures calls { OnOk result (RoseBy (length peers.now) (Q.calls ports.old, Q.calls ports.new)) }
@@ -168,16 +174,20 @@ fn add_workers<K: Listener + Drop, F: Drop, I: Drop, O: Drop, R: Wait + Clock + 
     rt: R,
     alloc: Global,
     desk: &mut TurnDesk<R>,
+    members: &[As],
     workers: u32,
     tasks: &mut Vec<Task<K, F, I, O, R>>,
 ) -> Result<(), NoMemory>
+    requires seats { workers < shares_at desk.old }
     requires fresh { IsFresh (stand_of desk.old) }
+    ensures seats { OnOk result (shares_at desk.new + workers ≡ shares_at desk.old) }
     ensures stand { stand_of desk.new ≡ stand_of desk.old }
     ensures ok { OnOk result (Adds K.opened_at K.heeds K.dialled_to (stand_of desk.old) tasks.old.items tasks.new.items (work_duties 0 workers)) }
 {
     for index in 0..workers {
         let cache = Cache::new(alloc, CACHE_CAPACITY)?;
-        let bench = WorkBench::new(desk_beside(rt, desk)?, index);
+        let circle = Circle::new(alloc, members)?;
+        let bench = WorkBench::new(desk_beside(rt, desk)?, index, circle);
         push_task(
             tasks,
             Task::Work {
@@ -198,7 +208,9 @@ fn add_carrier<K: Listener + Drop, F: Drop, I: Drop, O: Drop, R: Wait + Clock + 
     parts: &NetworkParts,
     tasks: &mut Vec<Task<K, F, I, O, R>>,
 ) -> Result<(), NoMemory>
+    requires seat { 1 < shares_at desk.old }
     requires fresh { IsFresh (stand_of desk.old) }
+    ensures seat { OnOk result (shares_at desk.new + 1 ≡ shares_at desk.old) }
     ensures stand { stand_of desk.new ≡ stand_of desk.old }
     ensures ok { OnOk result (Adds K.opened_at K.heeds K.dialled_to (stand_of desk.old) tasks.old.items tasks.new.items (Carry (ways_of parts.now) ∷ [])) }
 {
@@ -206,6 +218,18 @@ fn add_carrier<K: Listener + Drop, F: Drop, I: Drop, O: Drop, R: Wait + Clock + 
     let desk = desk_beside(rt, desk)?;
     desk.tell_ways(alloc, links.as_slice())?;
     push_task(tasks, Task::Carry { links, desk })
+}
+
+// The members of a network that have jobs: the parent, where there is one, and the elements.
+fn members_of(alloc: Global, parts: &NetworkParts) -> Result<Vec<As>, NoMemory> {
+    let mut members = Vec::new(alloc);
+    if parts.parent.is_some() {
+        members.push(As(0))?;
+    }
+    for row in parts.elements.as_slice() {
+        members.push(row.own)?;
+    }
+    Ok(members)
 }
 
 /// The tasks of the peers, of the carrier and of the workers. It listens at each peer's port or will dial it, in order.
@@ -216,7 +240,9 @@ pub(crate) fn plan_tasks<Q: Ports, F: Drop, I: Drop, O: Drop, R: Wait + Clock + 
     ports: &mut Q,
     network: &Network,
 ) -> Result<Vec<Task<Q::Port, F, I, O, R>>, Served>
+    requires seats { first_count network.now < shares_at desk.old }
     requires fresh { IsFresh (stand_of desk.old) }
+    ensures seats { OnOk result (shares_at desk.new + first_count network.now ≡ shares_at desk.old) }
     ensures stand { stand_of desk.new ≡ stand_of desk.old }
     ensures ok { IfOk result (λ tasks. (map (duty_of Q.Port.opened_at) tasks.items ≡ first_duties network.now) × All (IsPlanned Q.Port.heeds Q.Port.dialled_to (stand_of desk.old)) tasks.items) }
     ensures calls { OnOk result (RoseBy (length network.now.peers) (Q.calls ports.old, Q.calls ports.new)) }
@@ -227,6 +253,14 @@ pub(crate) fn plan_tasks<Q: Ports, F: Drop, I: Drop, O: Drop, R: Wait + Clock + 
     let mut tasks = Vec::new(alloc);
     add_ports(rt, desk, ports, parts.peers.as_slice(), &mut tasks)?;
     add_carrier(rt, alloc, desk, parts, &mut tasks)?;
-    add_workers(rt, alloc, desk, parts.workers, &mut tasks)?;
+    let members = members_of(alloc, parts)?;
+    add_workers(
+        rt,
+        alloc,
+        desk,
+        members.as_slice(),
+        parts.workers,
+        &mut tasks,
+    )?;
     Ok(tasks)
 }

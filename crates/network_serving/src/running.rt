@@ -1,11 +1,11 @@
 //! What a task does.
 ghost use Rattle.network_serving.specs.Tasks.{IsNew};
 
-use crate::gates::OpenGate;
 use crate::tasks::Task;
 use crate::watching::watch_port;
+use crate::working::work_on;
 use dom_edge::{Listener, Sink, Source, Store};
-use server_loops::{Operated, Ran, Worked, carry_guided, operate, serve_port, work};
+use server_loops::{Operated, Ran, Worked, carry_guided, operate, serve_port};
 use std::alloc::Global;
 use std::sync::Wait;
 use std::time::Clock;
@@ -24,7 +24,7 @@ pub enum TaskEnd {
 impl<K: Listener, F: Store, I: Source, O: Sink, R: Wait + Clock + Drop> Task<K, F, I, O, R> {
     ghost use Rattle.network_serving.specs.Running.{RunsTask};
 
-    /// Does it, for so many turns at most. It ends as the call of its kind does.
+    /// Does it, for so many turns at most. It ends as the call of its kind does, but that a worker for which memory lacked begins anew.
     pub fn run(&mut self, alloc: Global, turns: u64) -> TaskEnd
         requires new { IsNew K.heeds K.dialled_to self.old }
         ensures runs { RunsTask (record { opened_at = K.opened_at; heeds = K.heeds; dialled_to = K.dialled_to; accept_faults = K.faults; quiets = K.quiets; handed = K.handed; files = F.files; store_faults = F.faults; failed_at = F.failed_at; left = I.left; input_faults = I.faults; written = O.written; output_faults = O.faults }) turns result self.old self.new }
@@ -43,11 +43,7 @@ impl<K: Listener, F: Store, I: Source, O: Sink, R: Wait + Clock + Drop> Task<K, 
                 index,
                 cache,
                 bench,
-            } => {
-                let worked = work(alloc, bench, &mut OpenGate::new(), cache, *index, turns);
-                bench.let_go();
-                TaskEnd::Worked(worked)
-            }
+            } => TaskEnd::Worked(work_on(alloc, bench, cache, *index, turns)),
             Task::Operate {
                 desk,
                 files,

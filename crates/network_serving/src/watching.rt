@@ -44,6 +44,8 @@ pub(crate) fn watch_port<K: Listener, R: Wait>(
     ensures heeds { K.heeds listener.new ≡ K.heeds listener.old }
     ensures dials { K.dialled_to listener.new ≡ K.dialled_to listener.old }
 {
+    // Nobody rings for watchers: from now on a wait lasts until something comes, for ten seconds at most.
+    let _bell = listener.bell();
     for _turn in 0..turns {
         accept_once(rt, alloc, watcher, listener);
     }

@@ -1,4 +1,4 @@
--- What is answered is one: the rule of ties leaves no choice. The premise on the order says no more than that far addresses
+-- The answer is unique, since the rule of ties leaves no choice. The premise on the order says no more than that far addresses
 -- differ; every topology has it.
 use Rattle.std.specs.Prelude.{◌≡◌, ◌≤◌}
 use Rattle.dom_base.specs.declared.limits.TheConstants.{COST_MAX}
@@ -7,7 +7,7 @@ use Rattle.pcep_messages.specs.declared.message.Message.{Message}
 use Rattle.one_domain.specs.declared.replying.PathRequest.{PathRequest}
 use Rattle.one_domain.specs.Replies.{IsReply}
 
--- the reply to a request is one message, and so one text
+-- a request has only one reply, and so only one text
 abbrev pub ReplyIsOne : Type 0
 ReplyIsOne =
     (g : Rows) (r : PathRequest) (m n : Message) → IsInOrder g → r.wanted.query.cap ≤ COST_MAX → IsReply g r m → IsReply g r n → m ≡ n

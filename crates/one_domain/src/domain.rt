@@ -37,7 +37,7 @@ pub fn seeds_of(target: Addr) -> [Seed; 1]
     [seed_of_target(target)]
 }
 
-// What is asked of the domain.
+// The ask of the domain.
 fn ask_for(alloc: Global, own: As, wanted: &Wanted) -> Result<Ask, NoMemory>
     ensures { IfOk result (λ ask. ask ≡ ask_of own wanted.now) }
 {

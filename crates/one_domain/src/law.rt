@@ -1,7 +1,7 @@
-//! That an answer is one, as a law.
+//! A law: an answer is unique.
 ghost use Rattle.one_domain.specs.Once.{ReplyIsOne};
 
-/// A law: the reply to a request is one message.
+/// A law: a request has only one reply.
 pub fn reply_is_one()
     ensures { ReplyIsOne }
 {}

@@ -87,7 +87,7 @@ pub record IsSiftedReply (units : ℕ → Option ℕ) (word : ℕ → ℕ) (most
 
 -- ---- laws
 
--- What is kept of a reply is what the relation says, and nothing else is.
+-- Sifting keeps of a reply what the relation says, and nothing else.
 abbrev pub SiftsExactly : Type 0
 SiftsExactly = (units : ℕ → Option ℕ) (word : ℕ → ℕ) (most : ℕ) (r s : Reply) → (s ≡ sifted units word most r) ↔ IsSiftedReply units word most r s
 

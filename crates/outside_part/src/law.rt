@@ -1,4 +1,4 @@
-//! What sifting keeps, as laws.
+//! Laws of sifting: what it keeps.
 ghost use Rattle.outside_part.specs.Rows.{SiftsExactly, SiftsOnce, SiftsOnceByWords};
 ghost use Rattle.outside_part.specs.Ranges.{SiftedFits};
 

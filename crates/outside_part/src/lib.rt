@@ -1,7 +1,7 @@
 //! What is kept of a reply of an outside element: for each entry and type of METRIC the first path of
 //! least cost, of strict hops and path keys alone, with the word of its whole cost.
 //!
-//! An element that asks an outside element for the rest of a path is told paths as that one sees fit.
+//! An outside element that is asked for the rest of a path may tell any paths.
 //! `sift` makes of them what the elements of one network tell each other, branches of a virtual
 //! shortest path tree (RFC 5441, section 4.2): one path for each entry and type, in rising order, each
 //! of which can be joined to a path that leads to its entry. That `sift` keeps just these is the

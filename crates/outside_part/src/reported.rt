@@ -33,7 +33,7 @@ fn cost_of_word(word: u32) -> Option<Cost>
     }
 }
 
-// What a METRIC measures, where it is of a type by which a path can be measured.
+// The cost that a METRIC measures, where it is of a type by which a path can be measured.
 fn measured(kind: u8, word: u32) -> Option<Cost>
     ensures { result ≡ measured units kind word }
 {

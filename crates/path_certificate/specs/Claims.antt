@@ -122,7 +122,7 @@ bound_at c (Link i) = link_bound c.topology c.query c.label i
 bound_at c (Node i) = None
 bound_at c (Path k) = None
 
--- what a check has to say
+-- the verdict of a check
 abbrev pub IsVerdict : Claim → Verdict → Type 0
 IsVerdict c Holds = (place : Place) → HoldsAt c place
 IsVerdict c (Fails place told bound) = IsFirstFalse c place × (told ≡ told_at c place) × (bound ≡ bound_at c place)

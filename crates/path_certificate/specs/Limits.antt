@@ -1,4 +1,4 @@
--- How much a certificate and a check may have, as numbers: those that the constants of the code are.
+-- How much a certificate and a check may have, as numbers. The constants in the code are proved to be these numbers.
 use Rattle.std.specs.Prelude.{◌≡◌}
 use Rattle.path_certificate.specs.declared.limits.TheConstants.{SEEDS_MAX, CERTIFICATE_BYTES_MAX}
 

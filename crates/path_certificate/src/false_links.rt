@@ -12,7 +12,7 @@ use crate::ordered::is_at_most;
 use dom_base::{Addr, Cost, Label, Query};
 use te_links::Topology;
 
-// What is false at a link. What it offers within the cap bounds the label of its beginning.
+// The fault at a link. What the link offers within the cap is a bound on the label of its beginning.
 fn broken_link(
     topology: &Topology,
     query: &Query,

@@ -22,7 +22,7 @@ fn may_have(query: &Query, seeds: &[Seed], node: Addr, label: &Label, made: bool
         && (made || ends_at(seeds, node, label))
 }
 
-// What is false at a node with a label.
+// The fault at a node with a label.
 fn broken_node(
     topology: &Topology,
     query: &Query,

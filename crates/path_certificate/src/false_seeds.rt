@@ -13,7 +13,7 @@ use crate::ordered::is_at_most;
 use dom_base::{Addr, Label, Query, Seed};
 use te_links::Topology;
 
-// What is false at a seed. An admitted seed within the cap bounds the label of its node.
+// The fault at a seed. An admitted seed within the cap is a bound on the label of its node.
 fn broken_seed(
     topology: &Topology,
     query: &Query,

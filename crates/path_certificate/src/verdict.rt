@@ -1,4 +1,4 @@
-//! What a check says.
+//! The verdict of a check.
 use dom_base::Label;
 use std::fmt::{self, Display, Formatter, Write};
 
@@ -23,7 +23,7 @@ impl Display for Place {
     }
 }
 
-/// What a check says: all conditions hold, or which is the first that is false. `told` is the label
+/// The verdict of a check: all conditions hold, or the first that is false. `told` is the label
 /// at the seed's node, of the link's beginning or of the node; `bound` is the seed's label, or the
 /// sum of the link's weight and the label of its end, with that label's exit. Both are absent for
 /// the path.

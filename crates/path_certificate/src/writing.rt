@@ -12,7 +12,7 @@ use crate::text_row::TextRow;
 use dom_base::{Addr, As, Bytes, Label, List, NoMemory, write_addr, write_number};
 use std::alloc::Global;
 
-// Each of these writes a line at the end. After a refusal a part of it may stand there.
+// Each of these writes a line at the end. On `NoMemory` a part of it may stand there.
 
 fn write_header(own: As, into: &mut Vec<u8>) -> Result<(), NoMemory>
     ensures ok { OnOk result (into.new.items ≡ into.old.items ++ line_text (header_words own)) }
@@ -58,7 +58,7 @@ fn write_row(addr: Addr, label: &Option<Label>, into: &mut Vec<u8>) -> Result<()
     }
 }
 
-/// Writes addresses at the end, with a blank before each. After a refusal a part of them may stand
+/// Writes addresses at the end, with a blank before each. On `NoMemory` a part of them may stand
 /// there.
 pub fn write_addrs(addrs: &[Addr], into: &mut Vec<u8>) -> Result<(), NoMemory>
     ensures ok { OnOk result (into.new.items ≡ into.old.items ++ spaced (map addr_text addrs.now)) }

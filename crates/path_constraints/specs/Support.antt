@@ -15,7 +15,7 @@ bits_of (V4 n) = 32
 bits_of (V6 n) = 128
 
 -- A prefix of no more bits than its kind has means an interface (attribute 0) or a node (attribute 1). An unnumbered
--- interface (type 4) stands nowhere here and is kept without effect.
+-- interface (type 4) matches nothing here and is kept without effect.
 abbrev pub is_supported : Excluded → Bool
 is_supported (Prefix addr length attribute) = nat_lt attribute 2 && nat_le length (bits_of addr)
 is_supported (AsNumber number) = true

@@ -31,8 +31,8 @@ fn fits(query: &Query, link: &Link) -> bool
 }
 
 /// Whether a query allows a link: it has the bandwidth that is asked for and the colours (RFC 3209,
-/// section 4.7.4), and no exclusion bars it (RFC 5521, section 2.1). What a path may take is a link
-/// that is allowed, between nodes that no exclusion bars.
+/// section 4.7.4), and no exclusion bars it (RFC 5521, section 2.1). A path may take each link that
+/// is allowed and goes between nodes that no exclusion bars.
 #[inline(always)]
 pub fn allows(query: &Query, link: &Link) -> bool
     ensures { IsTrue result ↔ Allows query.now link.now }
@@ -40,8 +40,8 @@ pub fn allows(query: &Query, link: &Link) -> bool
     fits(query, link) && !bars_link(query, link)
 }
 
-/// Whether a query asks nothing of a link. Asked once for many links, it spares the look at each
-/// of them: all are allowed. Exclusions that bar no link count as something asked.
+/// Whether a query asks nothing of a link: then all links are allowed. One such call spares a look at
+/// each of many links. Exclusions that bar no link count as something asked.
 #[tactic(auto, using(crate::proofs::Free::all_allowed))]
 pub fn asks_nothing(query: &Query) -> bool
     ensures asks { IsTrue result ↔ AsksNothing query.now }

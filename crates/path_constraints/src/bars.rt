@@ -31,7 +31,7 @@ fn lies_in(addr: Addr, prefix: Addr, length: u8) -> bool
     }
 }
 
-// Stays a call, so that what is asked of each link is small where nothing is excluded.
+// Never inlined, so that the test of each link stays short where nothing is excluded.
 #[inline(never)]
 fn names_link(what: &Excluded, link: &Link) -> bool
     ensures { IsTrue result ↔ NamesLink what.now link.now }

@@ -1,5 +1,5 @@
-//! What a path may take: which exclusions can be kept, which links and nodes those of a query bar, which links a
-//! query allows, and what a link weighs.
+//! The constraints on a path: which exclusions are supported, which links and nodes the exclusions of a query bar,
+//! which links a query allows, and what a link weighs.
 #![tactic(auto)]
 
 mod admission;

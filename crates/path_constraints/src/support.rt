@@ -1,4 +1,4 @@
-//! Which exclusions can be kept.
+//! Which exclusions are supported.
 ghost use Rattle.std.specs.Prelude.{◌≡◌, ◌&&◌, IfOk, not, position};
 ghost use Rattle.path_constraints.specs.Support.{bits_of, is_supported, is_demand, demands, first_unsupported, Supports};
 ghost use Rattle.path_constraints.specs.declared.support.ExclusionError.TheVariants as faults;
@@ -6,7 +6,7 @@ ghost use Rattle.path_constraints.specs.declared.support.ExclusionError.TheVaria
 use dom_base::{Addr, Excluded, Exclusion, List, NoMemory};
 use std::alloc::Global;
 
-/// Why exclusions can't be kept.
+/// Why exclusions are not supported.
 #[derive(Clone, Copy, Debug)]
 pub enum ExclusionError {
     /// The place, from 0, of the first one that is demanded and not supported.

@@ -55,7 +55,7 @@ impl<S: Drop> PathKeys<S> {
         })
     }
 
-    /// Makes room for so many more keys. After a refusal the keys are as before.
+    /// Makes room for so many more keys. On `NoMemory` the keys are as before.
     pub fn reserve(&mut self, n: u32) -> Result<(), NoMemory>
         ensures same { self.new.kept ≡ self.old.kept }
         ensures ok { OnOk result (n ≤ self.new.spare) }

@@ -1,4 +1,4 @@
--- What labels are inside.
+-- Labels as contracts see them, by their fields.
 use Rattle.std.specs.Prelude.{List}
 use Rattle.std.specs.declared.option.Option.{Option}
 use Rattle.dom_base.specs.declared.query.Label.{Label}

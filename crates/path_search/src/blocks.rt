@@ -6,10 +6,10 @@ ghost use Rattle.path_search.specs.declared.blocks.TheConstants.{NOTHING};
 
 use dom_base::Cost;
 
-/// Stands where there is no cost: greater than each.
+/// Stands for no cost; it is greater than every cost.
 pub(crate) const NOTHING: u32 = u32::MAX;
 
-/// So many costs are a block.
+/// The number of costs in a block.
 pub(crate) const BLOCK: usize = 32;
 
 // The least of numbers.

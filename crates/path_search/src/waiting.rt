@@ -16,7 +16,7 @@ fn no_costs(alloc: Global, count: usize) -> Result<Vec<u32>, NoMemory>
 }
 
 /// The costs of the nodes that wait to be settled, by their places, in blocks that each know their
-/// least. Exits have no part in it: each link costs something, so nodes of one cost do not lower
+/// least. Exits do not matter here: each link costs something, so nodes of one cost do not lower
 /// one another.
 #[derive(Drop)]
 pub(crate) struct Waiting {

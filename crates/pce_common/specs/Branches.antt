@@ -1,4 +1,4 @@
--- What a path of a reply tells of a branch.
+-- The parts of a branch that a path of a reply tells.
 use Rattle.std.specs.Prelude.{ℕ, cond, ◌==◌, nat_le, List, [], ◌∷◌, Option, Some, None}
 use Rattle.dom_base.specs.Words.{units}
 use Rattle.plant_model.specs.Types.{Addr, Metric, Hop}

@@ -4,7 +4,8 @@ pub mod Refusals
 pub mod Ways
 pub mod Membership
 pub mod Owed
+pub mod Rounds
 -- inner
 pub mod Branches
--- handed on from below
+-- re-exported from below
 pub use Rattle.plant_model.specs as plant_model

@@ -1,7 +1,7 @@
-//! What the element of a domain and the parent above it have in common: ways to other members, the messages
+//! The common parts of a domain's element and of the parent above it: ways to other members, the messages
 //! that both write, what errors and notices of a peer say, and the branches of replies.
 //!
-//! And what a network asks of its members: the trait of the elements and their parent, as the deeds of a network see them.
+//! And the trait `Members`: what a network calls of its elements and their parent, as the deeds of a network see them.
 #![tactic(auto)]
 
 mod branches;
@@ -12,6 +12,7 @@ mod objects;
 mod peers;
 mod refusal;
 mod reported;
+mod rounds;
 mod ways;
 
 pub use branches::branch_of;
@@ -25,4 +26,5 @@ pub use peers::is_same_peer;
 pub use plant_model as model;
 pub use refusal::Refusal;
 pub use reported::{error_answer, has_pair};
+pub use rounds::{AskedJob, Behind, next_of};
 pub use ways::{Way, Ways};

@@ -1,4 +1,4 @@
-//! The elements of a network and their parent, as deeds see them.
+//! The trait of the elements of a network and their parent.
 ghost use Rattle.std.specs.Prelude.{◌≡◌, ◌≤◌, ℕ, true, List, [], ◌∷◌, IfOk};
 ghost use Rattle.dom_base.specs.declared.names.As.{As};
 ghost use Rattle.pcep_subobjects.specs.declared.hop.Hop.{Hop};
@@ -16,7 +16,7 @@ use plant_model::{Lost, Outputs};
 
 /// The elements of a network and their parent. They know no queue: what they send is handed out.
 pub trait Members {
-    /// What a message makes of a member, before it is made.
+    /// What a message changes in a member, before the change is made.
     type Plan: Drop;
 
     // What a pin is, what a key stands for, what of that is shown, and where the members stand.
@@ -35,7 +35,7 @@ pub trait Members {
 
     ghost sends: { Self.Plan → List Output };
 
-    /// What a member makes of a message of a peer, which changes nothing yet. It is refused for want of
+    /// Plans what a message of a peer changes in a member; nothing changes yet. It fails only when out of
     /// memory.
     fn take(
         &mut self,
@@ -50,8 +50,8 @@ pub trait Members {
         ensures next { IfOk result (λ plan. next self.new plan ≡ (given wire (stands self.old).network show at peer now.0 message (stands self.old).seen).members) }
         ensures sends { IfOk result (λ plan. sends plan ≡ (given wire (stands self.old).network show at peer now.0 message (stands self.old).seen).outputs) };
 
-    /// What an element is given of a message of an outside peer: of a reply to what it asked there, what is
-    /// kept by sifting; of all else the message as it came. It is refused for want of memory.
+    /// What an element is given of a message of an outside peer: of a reply to what it asked there, what sifting
+    /// keeps; any other message as it came. It fails only when out of memory.
     fn heed(&self, at: As, peer: u32, message: Message) -> Result<Message, NoMemory>
         ensures heard { IfOk result (λ heeded. heeded ≡ heard wire at peer message (stands self.now).seen) };
 

@@ -40,7 +40,7 @@ fn add(objects: &mut List<Object>, object: Option<Object>) -> Result<(), NoMemor
     }
 }
 
-// What a request that is sent on says before the domains and the exclusions.
+// The objects of a request that is sent on, before the domains and the exclusions.
 fn put_first(
     objects: &mut List<Object>,
     id: u32,
@@ -68,7 +68,7 @@ fn put_first(
     add(objects, bound_object(metric, wanted.bound_word))
 }
 
-// What it says behind them.
+// Its domains and exclusions, behind these.
 fn put_last(
     alloc: Global,
     objects: &mut List<Object>,

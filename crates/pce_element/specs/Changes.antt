@@ -1,4 +1,4 @@
--- What a planned change makes of an element, and when it may be made.
+-- An element after a planned change, and when the change may be made.
 use Rattle.std.specs.Prelude.{◌≡◌, ◌≤◌, ◌+◌, ℕ, false, List, [], ◌∷◌, length, Option, Some, None}
 use Rattle.pce_common.specs.plant_model.Types.{Peer, Branch}
 use Rattle.request_table.specs.Pending.{Pending, number_of, item_of, is_full, opened_of, closed_of}

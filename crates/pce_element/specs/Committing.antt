@@ -10,7 +10,7 @@ use Rattle.pce_element.specs.Jobs.{job_at}
 use Rattle.pce_element.specs.Seen.{Seen}
 use Rattle.pce_element.specs.declared.answering.Answered.{Answered}
 
--- what was solved is the job of the request of its number, where that one is ready
+-- the solved job is that of the request of its number, where that one is ready
 abbrev pub IsOwnJob : Seen Pin Segment → Solution → Type 0
 IsOwnJob s x = IfSome (job_at s x.ask.number) (λ w. (x.ask ≡ w.ask) × (x.topology ≡ w.topology))
 

@@ -1,4 +1,4 @@
--- What an element is, by its parts.
+-- An element as contracts see it, by its parts.
 use Rattle.std.specs.Prelude.{◌+◌, ◌-◌, ◌≤◌, min, length, List}
 use Rattle.std.specs.Global.{Global}
 use Rattle.std.specs.VecDeque.{deque_capacity, deque_len}

@@ -10,7 +10,7 @@ use Rattle.pce_common.specs.plant_model.Jobs.{ask_of}
 use Rattle.pce_common.specs.plant_model.Plant.{Pin, Segment}
 use Rattle.pce_element.specs.Seen.{Seen}
 
--- what is asked, and the topology that it is computed in
+-- an ask, and the topology that it is computed in
 pub record Work : Type 0 where
   pub ask : Ask
   pub topology : Rows

@@ -17,5 +17,5 @@ pub mod Endings
 pub mod Answering
 pub mod Committing
 pub mod Joining
--- handed on from below
+-- re-exported from below
 pub use Rattle.pce_common.specs as pce_common

@@ -9,7 +9,7 @@ use Rattle.pce_element.specs.declared.pinned.Row.{Row}
 abbrev pub row_of : {P : Type 0} → Row P → element.Row P
 row_of r = (r.number, record { key = r.key; item = r.item.now })
 
--- what a request pins
+-- the pin of a request
 abbrev pub pin_in : Item Pin → Pin
 pin_in i = i.pin
 

@@ -115,7 +115,7 @@ fn closed_parts(
     Ok(parts)
 }
 
-// What the keys of these ways stand for.
+// The segments that the keys of these ways stand for.
 fn segments_in<W: World>(alloc: Global, best: &[Best]) -> Result<List<W::Segment>, NoMemory>
     ensures { IfOk result (λ segments. segments ≡ map W.stands best.now) }
 {

@@ -1,11 +1,11 @@
-//! What is to change in an element, and what is sent with it.
+//! A change of an element, and the messages that are sent with it.
 use crate::accepted::Opening;
 use crate::world::World;
 use dom_base::{List, Peer, Tick};
 use pce_common::model::Outputs;
 use vspt_tree::Branch;
 
-/// What is to change, with what was solved and what keys are to stand for.
+/// A change, with what was solved and what keys are to stand for.
 #[derive(Drop)]
 pub(crate) enum Change<D, S> {
     Nothing,

@@ -1,6 +1,7 @@
 //! One path computation element.
 ghost use Rattle.std.specs.Prelude.{◌≡◌, ◌≤◌, slice_get, IfOk};
 ghost use Rattle.pce_common.specs.plant_model.Element.{upped, down_of, next_lost_of, ticked, ready_numbers};
+ghost use Rattle.pce_common.specs.Rounds.{IsNext, is_solvable, jobs_by};
 ghost use Rattle.pce_element.specs.Lasting.{ReadyLast};
 ghost use Rattle.pce_element.specs.Seen.{SameButRoom, IsNew, with_element, with_losing};
 
@@ -10,8 +11,8 @@ use crate::world::World;
 use disclosure::Deny;
 use dom_base::{Addr, As, List, NoMemory, Peer, Tick};
 use path_keys::PathKeys;
-use pce_common::Ways;
 use pce_common::model::{Lost, Route};
+use pce_common::{AskedJob, Behind, Ways};
 use std::alloc::Global;
 use std::collections::VecDeque;
 use std::marker::Model;
@@ -98,6 +99,13 @@ impl<W: World> Element<W> {
         ensures { result ≡ slice_get (ready_numbers self.now.losing.element.pending.rows) k }
     {
         self.requests.ready(k)
+    }
+
+    /// The next request that can be solved, in the order of those who asked and then of the numbers; takes no memory.
+    pub fn next_job(&self, behind: Behind) -> Option<AskedJob>
+        ensures { IsNext behind (jobs_by is_solvable self.now.losing.element.pending.rows) result }
+    {
+        self.requests.next_job(behind)
     }
 
     /// A session comes up; takes no memory.

@@ -1,4 +1,4 @@
-//! What an element looks up in itself.
+//! Look-ups in an element.
 ghost use Rattle.std.specs.Prelude.{◌≡◌, ◌≤◌, ◌+◌, drop, filter, length, not};
 ghost use Rattle.std.specs.Option.{option_copied};
 ghost use Rattle.request_table.specs.Pending.{same_peer};
@@ -68,8 +68,8 @@ impl<W: World> Element<W> {
         self.requests.owed(peer)
     }
 
-    /// Through how many domains beyond its own the element sent the request on that waits for the answer to
-    /// an id of a peer; None where none waits. Takes no memory.
+    /// The request that waits for the answer to an id of a peer: through how many domains beyond its own the element
+    /// sent it on. None where none waits. Takes no memory.
     pub fn sent(&self, peer: Peer, id: u32) -> Option<usize>
         ensures { result ≡ sent_through peer id self.now.losing.element.pending.rows }
     {

@@ -3,6 +3,7 @@ ghost use Rattle.std.specs.Prelude.{◌≡◌, ◌≤◌, ◌<◌, ◌+◌, [], 
 ghost use Rattle.std.specs.Option.{option_copied};
 ghost use Rattle.request_table.specs.Pending.{ArePending, number_of, item_of, key_at, is_full, opened_of, closed_of, same_peer};
 ghost use Rattle.pce_common.specs.plant_model.Element.{ready_numbers};
+ghost use Rattle.pce_common.specs.Rounds.{IsNext, is_solvable, jobs_by};
 ghost use Rattle.pce_element.specs.Items.{new_item};
 ghost use Rattle.pce_element.specs.Rows.{row_of};
 ghost use Rattle.pce_element.specs.Leaving.{LeavesAt, SameButSpare};
@@ -11,8 +12,8 @@ ghost use Rattle.pce_element.specs.Changes.{all_closed, readied};
 use crate::accepted::{Accepted, Opening};
 use crate::world::World;
 use dom_base::{As, List, NoMemory, Peer};
-use pce_common::is_same_peer;
 use pce_common::model::Lost;
+use pce_common::{AskedJob, Behind, is_same_peer, next_of};
 use request_table::{PENDING_MAX, RequestKey, Requests};
 use std::alloc::Global;
 use std::marker::Model;
@@ -123,14 +124,14 @@ impl<W: World> PinnedRequests<W> {
         self.requests.asked(peer, id)
     }
 
-    /// What belongs to a request.
+    /// The accepted request of a number.
     pub fn get(&self, number: u64) -> Option<&Accepted<W::Pin>>
         ensures { option_copied result ≡ item_of self.now.pending number }
     {
         self.requests.get(number)
     }
 
-    /// Whose a request is, and its id there.
+    /// Who sent a request, and under which id.
     pub fn key(&self, number: u64) -> Option<RequestKey>
         ensures { result ≡ key_at self.now.pending number }
     {
@@ -225,6 +226,26 @@ impl<W: World> PinnedRequests<W> {
             }
         }
         None
+    }
+
+    /// The next request that can be solved, in the order of those who asked and then of the numbers; takes no memory.
+    pub fn next_job(&self, behind: Behind) -> Option<AskedJob>
+        ensures { IsNext behind (jobs_by is_solvable self.now.pending.rows) result }
+    {
+        let mut next = None;
+        for i in 0..self.len() {
+            let Some(row) = self.row(i) else {
+                unreachable!()
+            };
+            if row.item.is_ready() {
+                let job = AskedJob {
+                    asker: row.key.peer,
+                    number: row.number,
+                };
+                next = next_of(behind, next, job);
+            }
+        }
+        next
     }
 
     /// Makes a request ready with the branches of its answer; takes no memory.

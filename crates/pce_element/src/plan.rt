@@ -60,7 +60,7 @@ impl<W: World> Plan<W> {
         &self.outputs
     }
 
-    /// Gives the change up, and hands back what was solved, where it was planned for that; takes no
+    /// Gives the change up, and returns what was solved, where it was planned for that; takes no
     /// memory.
     pub fn back(self) -> Option<W::Solved>
         ensures { result ≡ self.solved }
@@ -76,7 +76,7 @@ impl<W: World> Plan<W> {
         }
     }
 
-    /// What is to change.
+    /// The change.
     pub(crate) fn into_change(self) -> Change<W::Solved, W::Segment>
         ensures element { changed self.from.current result self.from.losing.element ≡ self.taken.element }
         ensures fits { Fits self.from result }

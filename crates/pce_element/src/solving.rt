@@ -28,7 +28,7 @@ fn is_client(class: Class) -> bool
     }
 }
 
-// What the rows of a request join to. A client's are not looked at: what it is answered nobody closed sees.
+// What the rows of a request join to. A client's rows are not looked at, since no closed peer sees its answer.
 fn best_of(
     alloc: Global,
     item: &Accepted<()>,

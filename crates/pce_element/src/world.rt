@@ -57,7 +57,7 @@ pub trait World: Drop {
     fn segment(alloc: Global, best: &Best) -> Result<Self::Segment, NoMemory>
         ensures { IfOk result (λ segment. segment ≡ stands best.now) };
 
-    /// What is shown to whom a key is expanded.
+    /// The hops that are shown when a key is expanded.
     fn hops(alloc: Global, segment: &Self::Segment) -> Result<List<Hop>, NoMemory>
         ensures { IfOk result (λ hops. hops ≡ show segment.now) };
 }

@@ -1,6 +1,9 @@
 //! The program: makes the real files, input and output, and runs the words that it is given.
 #![tactic(auto)]
 
+mod errors;
+mod patient;
+mod ports;
 mod progress;
 mod server;
 mod steady;

@@ -1,4 +1,7 @@
 //! The command `serve`: a network over the real files, ports, threads, input and output.
+use crate::errors::{Answers, StandardError};
+use crate::patient::Patient;
+use crate::ports::NamedPorts;
 use dom_base::Text;
 use dom_edge::{FileStore, InputSource, OutputSink, SocketPorts, WallClock};
 use network_serving::{Served, Spawner, ThreadSpawner, serve};
@@ -104,19 +107,21 @@ where
     };
     let alloc = rt.alloc();
     let mut spawner: Spawner<R> = Spawner::Threads(ThreadSpawner::new(threads, alloc));
+    let mut told = None;
     Ended::Served(serve(
         threads,
         alloc,
         settings,
         &mut FileStore::new(alloc, *rt),
-        &mut SocketPorts::new(*rt, alloc, address),
+        &mut NamedPorts::new(*rt, SocketPorts::new(*rt, alloc, address)),
         &mut spawner,
         &mut WallClock::new(*rt),
         FileStore::new(alloc, *rt),
-        InputSource::new(rt.reader()),
-        OutputSink::new(rt.stdout()),
-        &mut OutputSink::new(rt.stderr()),
+        InputSource::new(Patient::new(*rt, rt.reader())),
+        Answers::new(*rt, OutputSink::new(Patient::new(*rt, rt.stdout()))),
+        &mut StandardError::new(*rt),
         at,
         u64::MAX,
+        &mut told,
     ))
 }

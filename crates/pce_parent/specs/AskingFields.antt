@@ -1,4 +1,4 @@
--- What an accepted request is, by its fields.
+-- An accepted request as contracts see it, by its fields.
 use Rattle.std.specs.Prelude.{◌+◌, ◌≤◌, length, vec_capacity}
 use Rattle.pce_common.specs.plant_model.Parent.{Asking}
 use Rattle.pce_parent.specs.Joined.{joined}

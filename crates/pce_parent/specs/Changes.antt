@@ -1,4 +1,4 @@
--- What a planned change makes of the parent, and when it may be made.
+-- The parent after a planned change, and when the change may be made.
 use Rattle.std.specs.Prelude.{◌≡◌, ◌≤◌, ◌++◌, ℕ, true, false, List, [], ◌∷◌, Option, Some, None}
 use Rattle.pce_common.specs.plant_model.Types.{Peer}
 use Rattle.request_table.specs.Pending.{Pending, number_of, item_of, is_full, opened_of, closed_of}

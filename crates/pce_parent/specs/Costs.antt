@@ -12,7 +12,7 @@ use Rattle.pce_parent.specs.Places.{IsAt, same_spot, spot_of}
 abbrev pub cost_at : List (Option ℕ) → ℕ → Option ℕ
 cost_at costs k = slice_index_or costs k None
 
--- what stands at first
+-- the cost at first
 abbrev pub start_cost : Addr → Spot → Option ℕ
 start_cost target s = cond (same_spot s (spot_of (Leave s.own target))) (Some 0) None
 

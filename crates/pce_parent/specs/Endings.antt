@@ -4,7 +4,7 @@ use Rattle.pce_common.specs.plant_model.Parent.{Parent, ParentTaken}
 use Rattle.pce_parent.specs.Changes.{all_ended}
 use Rattle.pce_parent.specs.declared.ending.Ending.{Ending}
 
--- what is made of a parent when these requests end, and what is said
+-- the parent after these requests end, and the messages that are sent
 abbrev pub given_by : Parent → Ending → ParentTaken
 given_by k e = record { parent = all_ended e.numbers.items k; outputs = e.outputs }
 

@@ -1,4 +1,4 @@
--- What a solved job is, by its fields.
+-- A solved job as contracts see it, by its fields.
 use Rattle.std.specs.Prelude.{◌≡◌, ℕ, List}
 use Rattle.std.specs.Borrow.{Bor}
 use Rattle.std.specs.Option.{option_map}

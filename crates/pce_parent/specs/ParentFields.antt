@@ -1,4 +1,4 @@
--- What the parent is, by its fields.
+-- The parent as contracts see it, by its fields.
 use Rattle.std.specs.Prelude.{◌≡◌, ◌<◌, ◌+◌, ◌-◌, ◌≤◌, min, length, All, AllPairs}
 use Rattle.std.specs.VecDeque.{deque_capacity, deque_len}
 use Rattle.pce_common.specs.plant_model.Types.{As}

@@ -1,4 +1,4 @@
--- What a plan is, by its fields.
+-- A plan as contracts see it, by its fields.
 use Rattle.pce_parent.specs.Changes.{Fits, HasRoom, changed, solved_in}
 use Rattle.pce_parent.specs.Plans.{Planned}
 use Rattle.pce_parent.specs.declared.plan.BorderPlan.TheInside.{Inside}

@@ -42,7 +42,7 @@ job_when f n (Some h) = cond (is_ready h.item) (Some (job_of f (n, h))) None
 abbrev pub job_at : Seen → ℕ → Option BorderJob
 job_at s n = job_when s.family n (lookup (nat_eq n) s.losing.parent.pending.rows)
 
--- what comes of a solved job, where its request is ready
+-- the outcome of a solved job, where its request is ready
 abbrev pub committed_when : BorderSolution → Parent → Option (Held Asking) → Option ParentTaken
 committed_when solved k None = None
 committed_when solved k (Some h) = cond (is_ready h.item) (Some (commit wire (solved.job.number, h) solved.answer k)) None

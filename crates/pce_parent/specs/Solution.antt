@@ -1,4 +1,4 @@
--- What a solved job of a parent is.
+-- Solved jobs of a parent.
 use Rattle.std.specs.Prelude.{Option}
 use Rattle.te_links.specs.Rows.{IsMetric}
 use Rattle.pce_common.specs.plant_model.Types.{ParentLink}

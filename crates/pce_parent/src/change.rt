@@ -1,4 +1,4 @@
-//! What is to change in the parent, and what is sent with it.
+//! A change of the parent, and the messages that are sent with it.
 ghost use Rattle.std.specs.Prelude.{◌≡◌, []};
 
 use crate::asking::Asking;
@@ -8,7 +8,7 @@ use pce_common::Ways;
 use pce_common::model::{ChildRow, Outputs};
 use std::alloc::Global;
 
-/// What is to change.
+/// A change of the parent.
 #[derive(Drop)]
 pub enum Change {
     Nothing,

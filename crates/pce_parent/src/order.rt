@@ -1,5 +1,5 @@
-//! Relaxation in the order of costs: the place with the least cost that waits goes first (Dijkstra). What is
-//! found so is tested again by `relax`, so that no contract here speaks of the order.
+//! Relaxation in the order of costs: the place with the least cost that waits goes first (Dijkstra). The
+//! result is tested again by `relax`, so that no contract here speaks of the order.
 ghost use Rattle.std.specs.Prelude.{◌≡◌, ◌<◌, length, All, IfSome};
 ghost use Rattle.pce_parent.specs.Costs.{IsStep, AreReached};
 

@@ -4,16 +4,17 @@ ghost use Rattle.std.specs.Map.{lookup};
 ghost use Rattle.std.specs.Prelude.{nat_eq};
 ghost use Rattle.dom_base.specs.declared.names.As.{As as Domain};
 ghost use Rattle.request_table.specs.Pending.{same_peer};
-ghost use Rattle.pce_common.specs.plant_model.Parent.{upped, down_of, next_lost_of, ready_numbers, start_of};
+ghost use Rattle.pce_common.specs.plant_model.Parent.{upped, down_of, is_ready, next_lost_of, ready_numbers, start_of};
+ghost use Rattle.pce_common.specs.Rounds.{IsNext, jobs_by};
 ghost use Rattle.pce_parent.specs.Seen.{SameButRoom, IsNew, with_parent, with_losing, job_at};
 ghost use Rattle.pce_parent.specs.Solution.{IsWeighed};
 
 use crate::asking::Asking;
 use crate::copies::copy_links;
-use crate::pending::{leave_all, owed, ready_at};
+use crate::pending::{leave_all, next_at, owed, ready_at};
 use dom_base::{Addr, As, List, NoMemory, ParentLink, Peer};
-use pce_common::Ways;
 use pce_common::model::{BorderJob, Lost, PARENT_PENDING_MAX};
+use pce_common::{AskedJob, Behind, Ways};
 use request_table::Requests;
 use std::alloc::Global;
 use std::collections::VecDeque;
@@ -123,6 +124,13 @@ impl Parent {
         ensures { result ≡ slice_get (ready_numbers self.now.losing.parent.pending.rows) k }
     {
         ready_at(&self.requests, k)
+    }
+
+    /// The next request that can be solved, in the order of those who asked and then of the numbers; takes no memory.
+    pub fn next_job(&self, behind: Behind) -> Option<AskedJob>
+        ensures { IsNext behind (jobs_by is_ready self.now.losing.parent.pending.rows) result }
+    {
+        next_at(&self.requests, behind)
     }
 
     /// The job of a request that can be solved.

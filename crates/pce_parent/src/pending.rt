@@ -2,15 +2,16 @@
 ghost use Rattle.std.specs.Prelude.{◌≡◌, ◌≤◌, ◌<◌, ◌+◌, ◌++◌, ◌∷◌, [], filter, length, slice_get, Some, MatchOption};
 ghost use Rattle.std.specs.VecDeque.{deque_capacity, deque_len};
 ghost use Rattle.request_table.specs.Pending.{ArePending, closed_of, item_of, same_peer};
-ghost use Rattle.pce_common.specs.plant_model.Parent.{kept, lost, ready_numbers};
+ghost use Rattle.pce_common.specs.plant_model.Parent.{is_ready, kept, lost, ready_numbers};
+ghost use Rattle.pce_common.specs.Rounds.{IsNext, jobs_by};
 ghost use Rattle.pce_parent.specs.Pendings.{Leaves, row_of, with_rows};
 ghost use Rattle.pce_parent.specs.Changes.{Waits, all_closed, answered_at};
 
 use crate::asking::Asking;
 use crate::wait::waits_on;
 use dom_base::{List, Peer};
-use pce_common::is_same_peer;
 use pce_common::model::{ChildRow, Lost};
+use pce_common::{AskedJob, Behind, is_same_peer, next_of};
 use request_table::{RequestKey, Requests};
 use std::collections::VecDeque;
 
@@ -71,6 +72,26 @@ pub fn ready_at(requests: &Requests<Asking>, k: usize) -> Option<u64>
         }
     }
     None
+}
+
+/// The next request that can be solved, in the order of those who asked and then of the numbers.
+pub fn next_at(requests: &Requests<Asking>, behind: Behind) -> Option<AskedJob>
+    ensures { IsNext behind (jobs_by is_ready requests.now.kept.rows) result }
+{
+    let mut next = None;
+    for i in 0..requests.len() {
+        let Some(row) = row_at(requests, i) else {
+            unreachable!()
+        };
+        if row.item.is_ready() {
+            let job = AskedJob {
+                asker: row.key.peer,
+                number: row.number,
+            };
+            next = next_of(behind, next, job);
+        }
+    }
+    next
 }
 
 // There is memory for it.

@@ -62,7 +62,7 @@ impl BorderPlan {
         &self.outputs
     }
 
-    /// Gives the change up, and hands back what was solved, where it was planned for that; takes no
+    /// Gives the change up, and returns the solved job that it was planned for, if there is one; takes no
     /// memory.
     pub fn back(self) -> Option<BorderSolved>
         ensures { result ≡ self.solved }
@@ -73,7 +73,7 @@ impl BorderPlan {
         }
     }
 
-    /// What is to change.
+    /// The change.
     pub(crate) fn into_change(self) -> Change
         ensures parent { changed result self.from.losing.parent ≡ self.given.parent }
         ensures fits { Fits self.from result }

@@ -17,7 +17,7 @@ use pcep_messages::Wanted;
 use request_table::Requests;
 use std::alloc::Global;
 
-/// What was sent to the children so far.
+/// The requests that were sent to the children so far.
 #[derive(Drop)]
 pub struct Sending {
     /// Every wait, also of other requests.

@@ -37,7 +37,7 @@ impl Parent {
         ending.end(row.number)
     }
 
-    // What is notified of one id.
+    // A notice about one id.
     fn notify(
         &self,
         ending: &mut Ending,

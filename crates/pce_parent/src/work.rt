@@ -1,4 +1,4 @@
-//! What is to be solved, and what was.
+//! Jobs to solve, and solved jobs.
 use crate::solved::BorderSolved;
 use border_costs::{Job, Solved};
 use pce_common::model::BorderJob;

@@ -1,4 +1,4 @@
--- What every run of a network is worth that a command plays.
+-- What holds for every run of a network that a command plays.
 use Rattle.std.specs.Prelude.{◌≡◌, ◌≤◌, ℕ, true, List, [], ◌∷◌, ◌++◌, length, Option, Some}
 use Rattle.dom_edge.specs.Stores.{Files}
 use Rattle.line_text.specs.Lines.{NumberedLine, told_lines}
@@ -36,7 +36,7 @@ use Rattle.network_files.specs.Settings.{HasNetwork}
 use Rattle.pce_tool.specs.Networks.{question_of}
 use Rattle.pce_tool.specs.Tasks.{Task, Blind, Bulk, Path, Play}
 
--- A run is right; and without a parent no id comes round in it, so what is said of it then has no premise.
+-- A run is right; and without a parent no id wraps around in it, so what is said of it then has no premise.
 pub record IsWorth (n : NetworkParts) (turns : List Turn) (end : PlayedNetwork) : Type 0 where
   pub right : IsRight n (entries_of turns []) end.state
   pub short : HasNoParent n → HasIdsLeft n (entries_of turns [])
@@ -54,8 +54,8 @@ PlaysAreWorth files net =
     → HasNetwork files net n → length script ≤ script_most → told_lines script ≡ done ++ others → (p : Playing files n done turns told end)
     → IsWorth n turns end × (ShowsRows p.cues → DisclosedRun wire n (entries_of turns []) (shown_trace turns []) end.state)
 
--- A client asks once in a run, and receives this. What it is told is what the last message answers that was sent to it; each reply to a
--- request for a path among these messages is right; and each request that an element had from it is its question. Where no id comes round
+-- A client asks once in a run, and receives this. It is told what the last message that was sent to it answers; each reply to a
+-- request for a path among these messages is right; and each request that an element had from it is its question. Where no id wraps around
 -- and paths go on through no outside peer, what it is told last is the answer to that, and not nothing.
 pub record AnswerIsWorth (n : NetworkParts) (client : ℕ) (question : Question) (received : List ℕ) (turns : List Turn) (end : PlayedNetwork) : Type 0 where
   pub worth : IsWorth n turns end
@@ -79,7 +79,7 @@ pub record BulkIsWorth (received : List (List ℕ)) (turns : List Turn) (end : P
 abbrev pub BulksAreWorth : ℕ → Type 0
 BulksAreWorth n = (d : Demand) (received : List (List ℕ)) → n ≤ requests_most → (b : IsBulk d n received) → BulkIsWorth received (bulk_turns b) b.end
 
--- What is told of lines that are played on a network without topologies is what such a network says on the trace of their events. Where
+-- The transcript of lines that are played on a network without topologies is what such a network says on the trace of their events. Where
 -- that is what a run of a network with topologies discloses, it is what closed peers hear of that run once its links have begun.
 pub record IsHeard (n : NetworkParts) (turns : List BlindTurn) (told : List ℕ) (end : BlindPlayed) : Type 0 where
   pub says : SaysSo n turns told end

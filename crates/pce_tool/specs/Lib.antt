@@ -9,6 +9,6 @@ pub mod Files
 pub mod Worlds
 pub mod Limits
 pub mod Statuses
--- what the parts of a run say to one another
+-- the interfaces between the parts of a run
 pub mod Parts
 pub mod PairParts

@@ -49,7 +49,7 @@ IsScriptStatus input counts status.NoMemory = Unit {0}
 IsScriptStatus input counts (status.TooLarge name) = (name ≡ input_name) × IfSome input (λ left. script_most < length left)
 IsScriptStatus input counts s = ⊥
 
--- what a script meets of the outside of a run
+-- what a script meets of the world outside a run
 abbrev pub around_of : World → Around
 around_of w = around w.files (w.before, w.after) w.store_faults w.output_faults w.failed_at
 
@@ -138,15 +138,15 @@ pub record IsCutAnswer (w : World) (n : NetworkParts) (r : Route) : Type 0 where
   pub rose : HasRisen w.output_faults
   pub part : AppendsSome w.before w.after (told_text received)
 
--- why it does not come to an answer: the status of a run whose script stopped so
+-- why there is no answer: the status of a run whose script stopped so
 abbrev pub IsStopStatus : Option Files → NetworkParts → ℕ × ℕ → List ℕ → Status → Type 0
 IsStopStatus files n counts failed_at s = (why : Stop) × AskStops files n counts failed_at why × (s ≡ status_of why)
 
--- nothing is written, since it does not come to an answer
+-- nothing is written, since there is no answer
 abbrev pub StopsAsking : World → NetworkParts → Route → Stop → Type 0
 StopsAsking w n r why = WroteNothing w × AskStops w.files (with_path n r.at) w.store_faults w.failed_at why
 
--- how it ends that a client asks
+-- how a run ends in which a client asks
 abbrev pub IsPathStatus : World → NetworkParts → Route → Status → Type 0
 IsPathStatus w n r status.Ok = (received : List ℕ) × IsAnswered w n r received × Appends w.before w.after (told_text received)
 IsPathStatus w n r status.ReadFault = StopsAsking w n r stop.ReadFault
@@ -176,11 +176,11 @@ PathEnds w net r s = (WroteNothing w × IsSettingsStatus w net s) ⊎ HasNoClien
 
 -- ---- requests over a drawn network
 
--- what the answers to so many requests come to
+-- the tally of the answers to so many requests
 abbrev pub IsCounted : ℕ → Tally → Type 0
 IsCounted n tally = IsTallied One n tally
 
--- a first part of what they come to is written, and the output failed
+-- a first part of the tally is written, and the output failed
 pub record IsCutTally (w : World) (n : ℕ) : Type 0 where
   pub tally : Tally
   pub counted : IsCounted n tally

@@ -1,4 +1,4 @@
--- What the parts of the answer to a request for a pair say to one another.
+-- The interfaces between the parts of the answer to a request for a pair.
 use Rattle.std.specs.Prelude.{◌≡◌, ◌≤◌, ◌+◌, ℕ, List, [], ◌∷◌, length, Some}
 use Rattle.dom_base.specs.declared.limits.TheConstants.{COST_MAX}
 use Rattle.client_laws.specs.plant_model.Types.{Addr, Answer}

@@ -93,7 +93,7 @@ IsPairWhy own text whys.NotBuilt = (asked : List Asked) × SpellsRequests text a
 IsPairWhy own text whys.Hex = hex_bytes text ≡ None
 IsPairWhy own text whys.Malformed = (frame : List ℕ) × (place : ℕ) × (hex_bytes text ≡ Some frame) × (message_of frame ≡ Err (Malformed place))
 
--- what is read of a text, unless memory runs out
+-- the answer of reading a text, unless memory runs out
 abbrev pub ReadsPair : ℕ → List ℕ → Result PairRequest RequestError → Type 0
 ReadsPair own text (Ok r) = IsPairRequest own text r
 ReadsPair own text (Err (errors.Not why)) = IsPairWhy own text why
@@ -109,7 +109,7 @@ ReadsMessage text (Err (errors.Not whys.Malformed)) = (frame : List ℕ) × (pla
 ReadsMessage text (Err errors.NoMemory) = Unit {0}
 ReadsMessage text (Err _) = ⊥
 
--- what is read of a text, unless memory runs out
+-- the answer of reading a text, unless memory runs out
 abbrev pub ReadsRequest : ℕ → List ℕ → Result PathRequest RequestError → Type 0
 ReadsRequest own text (Ok r) = IsPathRequest own text r
 ReadsRequest own text (Err (errors.Not why)) = IsWhy own text why

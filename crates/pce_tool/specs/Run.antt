@@ -1,4 +1,4 @@
--- What a run of the program reads, writes and answers.
+-- The input, output and status of a run of the program.
 use Rattle.std.specs.Prelude.{◌≡◌, ◌⊎◌, ◌≤◌, ℕ, List, [], ◌∷◌, length, codes, Option, Some, None, if◌then◌else◌}
 use Rattle.std.specs.Str.{bytes_eq}
 use Rattle.std.specs.Io.KnownBytes.{Appends}
@@ -89,7 +89,7 @@ IsBad (PairVerify topology certificate) own = IsPairWhy own
 IsBad (Pair topology) own = IsPairWhy own
 IsBad (PairCertify topology) own = IsPairWhy own
 
--- what a command has to write
+-- the text that a command has to write
 abbrev pub IsOutput : World → Command → List ℕ → Type 0
 IsOutput w (Answer topology) text =
     (g : Rows) × (r : PathRequest) × HasTopology w.files topology g × HasRequest w.input g.own.0 r × IsReplyText g r text
@@ -141,7 +141,7 @@ pub record IsBadRequest (w : World) (c : Command) (why : Why) : Type 0 where
   pub within : length bytes ≤ input_max
   pub is_why : IsBad c topology.own.0 bytes why
 
--- Why a command ended as it did. After a status other than Ok and a write fault nothing was written; want of memory has no cause.
+-- Why a command ended as it did. After a status other than Ok and a write fault nothing was written; "out of memory" has no cause.
 abbrev pub Ends : World → Command → Status → Type 0
 Ends w c status.Ok = (text : List ℕ) × IsOutput w c text × Appends w.before w.after text
 Ends w c status.Usage = ⊥

@@ -1,4 +1,4 @@
--- What the words of a run ask for.
+-- The task that the words of a run name.
 use Rattle.std.specs.Prelude.{◌≡◌, ◌==◌, ◌&&◌, ◌++◌, ℕ, ◌-◌, ◌^◌, Bool, true, false, not, List, [], ◌∷◌, codes, length, nat_le, slice_index, Option, Some, None, if◌then◌else◌}
 use Rattle.std.specs.Str.{bytes_eq}
 use Rattle.std.specs.List.{list_any}
@@ -102,7 +102,7 @@ bulk_task word = count_in word >>= λ n. Some (Bulk n)
 abbrev pub path_task : List ℕ → List ℕ → List ℕ → List (List ℕ) → Option Task
 path_task net source target words = path_in source target words >>= λ r. Some (Path net r)
 
--- what words ask for that are no command over one domain
+-- the task that words name which are no command over one domain
 abbrev pub network_task : List (List ℕ) → Option Task
 network_task (verb ∷ word ∷ []) =
     if bytes_eq verb (codes "play") then Some (Play word)
@@ -115,7 +115,7 @@ abbrev pub task_or : Option Task → Option Command → Option Task
 task_or other None = other
 task_or other (Some c) = Some (Domain c)
 
--- what the words ask for, if they are in the table
+-- the task that the words name, if they are in the table
 abbrev pub task_of : List (List ℕ) → Option Task
 task_of words = task_or (network_task words) (command_of words)
 

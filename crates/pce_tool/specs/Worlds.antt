@@ -1,11 +1,11 @@
--- What a run meets outside: files, input and output.
+-- What a run meets of the world outside: files, input and output.
 use Rattle.std.specs.Prelude.{◌≡◌, ◌<◌, ℕ, List, codes, length, Option, IfSome}
 use Rattle.std.specs.Io.KnownBytes.{Keeps}
 use Rattle.dom_edge.specs.Causes.{Rose}
 use Rattle.dom_edge.specs.Stores.{Files}
 use Rattle.pce_tool.specs.Limits.{input_max}
 
--- What a run met: the files and the input, where they are told; what was written before it and after; how often the store, the
+-- What a run met: the files and the input, where they are known; what was written before it and after; how often the store, the
 -- input and the output had failed before and after; and the name at which the store last failed.
 pub record World : Type 0 where
   pub files : Option Files
@@ -30,7 +30,7 @@ world files input written store_faults input_faults output_faults failed_at = re
   failed_at = failed_at;
 }
 
--- the input is these bytes, where that is told
+-- the input is these bytes, where that is known
 abbrev pub HasInput : Option (List ℕ) → List ℕ → Type 0
 HasInput input bytes = IfSome input (λ left. bytes ≡ left)
 

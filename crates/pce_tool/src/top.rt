@@ -114,7 +114,7 @@ fn run_path<S: Store, I: Source, K: Sink>(
 }
 
 /// Runs the command that the words are: reads the files in the order of the words, then the input,
-/// and writes to `out`. It returns on every input. What a run of a network is worth is a clause of its own.
+/// and writes to `out`. It returns on every input. A clause of its own says what holds for a run of a network.
 pub fn run<S: Store, I: Source, K: Sink>(
     alloc: Global,
     words: &[String],

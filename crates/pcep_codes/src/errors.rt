@@ -2,7 +2,7 @@
 /// The type of errors while a session opens; their values follow.
 pub const SESSION: u8 = 1;
 
-/// An Open that is none, or another message in its place.
+/// An invalid Open, or another message in its place.
 pub const INVALID_OPEN: u8 = 1;
 
 /// No Open in time.
@@ -11,7 +11,7 @@ pub const OPEN_WAIT_EXPIRED: u8 = 2;
 /// Other terms are asked for.
 pub const NEGOTIABLE: u8 = 4;
 
-/// Other terms were asked for again, or which is not said.
+/// Other terms were asked for again, or without saying which.
 pub const NOT_NEGOTIABLE: u8 = 6;
 
 /// No Keepalive in time.

@@ -32,7 +32,7 @@ abbrev pub feed_of : Framing → List ℕ → Progress
 feed_of framing piece =
     if framing.bad then record { frames = []; framing = framing } else cut_by (length framing.held + length piece) (framing.held ++ piece)
 
--- What a piece leads to is what the function says, and nothing else.
+-- A piece leads to the result of the function, and to nothing else.
 abbrev pub FeedsAsSaid : Type 0
 FeedsAsSaid = (framing new : Framing) (piece : List ℕ) (frames : List (List ℕ)) →
     FeedsTo framing piece frames new ↔ ((frames ≡ (feed_of framing piece).frames) × (new ≡ (feed_of framing piece).framing))

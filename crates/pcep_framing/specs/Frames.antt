@@ -26,15 +26,15 @@ abbrev pub AreMessages : List (List ℕ) → Type 0
 AreMessages [] = Unit {0}
 AreMessages (message ∷ messages) = IsMessage message × AreMessages messages
 
--- less than a message
+-- less than a whole message
 abbrev pub IsPartial : List ℕ → Type 0
 IsPartial bytes = (length bytes < 4) ⊎ (IsHead bytes × (length bytes < length_field bytes))
 
--- a header that no message has
+-- a header that no message may have
 abbrev pub IsBad : List ℕ → Type 0
 IsBad bytes = (4 ≤ length bytes) × ¬ IsHead bytes
 
--- where no message stands: the stream is bad there, or less than a message has come
+-- no message at the front: the stream is bad there, or less than a message has come
 abbrev pub Stops : Bool → List ℕ → Type 0
 Stops true bytes = IsBad bytes
 Stops false bytes = IsPartial bytes
@@ -43,7 +43,7 @@ abbrev pub joined : List (List ℕ) → List ℕ
 joined [] = []
 joined (piece ∷ pieces) = piece ++ joined pieces
 
--- the stream is these messages, and then what is less than one or bad
+-- the stream is these messages, and behind them less than a message, or a bad header
 pub record Splits (stream : List ℕ) (messages : List (List ℕ)) (bad : Bool) (rest : List ℕ) : Type 0 where
   pub all : joined messages ++ rest ≡ stream
   pub each : AreMessages messages
@@ -60,7 +60,7 @@ pub record Cuts (bytes : List ℕ) (messages : List (List ℕ)) (at : ℕ) : Typ
   pub all : joined messages ≡ take at bytes
   pub each : AreMessages messages
 
--- a framer holds what has come of the next message; after a bad header it holds that, and takes no more
+-- a framer holds the bytes of the next message that have come; after a bad header it keeps them and takes no more
 pub record Framing : Type 0 where
   pub held : List ℕ
   pub bad : Bool
@@ -78,10 +78,10 @@ pub record HasFed (framing : Framing) (stream : List ℕ) (messages : List (List
   pub frames : AreFrames stream messages framing.bad
   pub held : framing.bad ≡ false → frames.rest ≡ framing.held
 
--- Whatever the pieces: one more, fed to a framer, gives what the longer stream has more.
+-- For any pieces: one more piece, fed to a framer, gives the messages that the longer stream has more.
 abbrev pub FeedsJoin : Type 0
 FeedsJoin = (old new : Framing) (stream piece : List ℕ) (messages more : List (List ℕ)) → HasFed old stream messages → FeedsTo old piece more new → HasFed new (stream ++ piece) (messages ++ more)
 
--- A stream is read in one way.
+-- A stream has one list of frames.
 abbrev pub AreFramesOnce : Type 0
 AreFramesOnce = (stream : List ℕ) (messages others : List (List ℕ)) (bad worse : Bool) → AreFrames stream messages bad → AreFrames stream others worse → (messages ≡ others) × (bad ≡ worse)

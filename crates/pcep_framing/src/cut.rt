@@ -7,7 +7,7 @@ use dom_base::{Bytes, List, NoMemory, half};
 use pcep_codes::VERSION;
 use std::alloc::Global;
 
-/// The messages at the front of some bytes, where they end, and whether a bad header stands there.
+/// The messages at the front of some bytes, where they end, and whether a bad header follows.
 #[derive(Drop)]
 pub(crate) struct Cut {
     pub frames: List<Bytes>,

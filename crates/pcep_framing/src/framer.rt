@@ -15,7 +15,7 @@ pub struct Fed {
     pub bad: bool,
 }
 
-/// What has come of a stream, past its whole messages.
+/// The part of a stream that has come behind its last whole message.
 #[derive(Drop)]
 pub struct Framer {
     held: Vec<u8>,
@@ -55,7 +55,7 @@ impl Framer {
         }
     }
 
-    /// Takes the next piece of the stream. Once the stream is bad no frame comes. An `Err` changes nothing.
+    /// Takes the next piece of the stream. A bad stream gives no more frames. An `Err` changes nothing.
     pub fn feed(&mut self, piece: &[u8]) -> Result<Fed, NoMemory>
         ensures ok { IfOk result (λ fed. FeedsTo self.old piece.now fed.frames self.new) }
         ensures bad { IfOk result (λ fed. fed.bad ≡ self.new.bad) }
@@ -103,7 +103,7 @@ impl Framer {
 pub fn frame_all(alloc: Global, pieces: &[Bytes]) -> Result<Fed, NoMemory>
     // They are those of the pieces joined, and the stream is bad where the joined one is.
     ensures frames { IfOk result (λ fed. AreFrames (joined pieces.now) fed.frames fed.bad) }
-    // No others are, so it does not matter how the stream was cut into pieces.
+    // No others are, so the cuts between pieces do not matter.
     ensures only { IfOk result (λ fed. (others : List (List ℕ)) (bad : Bool) → AreFrames (joined pieces.now) others bad → (fed.frames ≡ others) × (fed.bad ≡ bad)) }
 {
     let mut framer = Framer::new(alloc);

@@ -2,7 +2,7 @@
 ghost use Rattle.pcep_framing.specs.Frames.{FeedsJoin, AreFramesOnce};
 ghost use Rattle.pcep_framing.specs.Feeding.{FeedsAsSaid};
 
-/// What a framer hands out over any pieces, joined, are the messages of the pieces joined; and it is
+/// The messages that a framer returns over any pieces are the messages of the pieces joined; and it is
 /// bad exactly from the piece on that completes a bad header.
 pub fn feeds_join()
     ensures { FeedsJoin }
@@ -13,7 +13,7 @@ pub fn frames_are_one()
     ensures { AreFramesOnce }
 {}
 
-/// What a piece leads to, as a relation and as a function, is the same.
+/// The relation and the function of one feed are the same.
 pub fn feeds_as_said()
     ensures { FeedsAsSaid }
 {}

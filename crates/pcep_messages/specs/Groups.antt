@@ -84,7 +84,7 @@ asked_of os = record { objects = os }
 abbrev pub requests_of : List Object → List (List Object)
 requests_of os = all_groups (cut (closes_by closers.Rp) false os)
 
--- ---- replies (6.5): from each RP on; what stands before the first is not kept
+-- ---- replies (6.5): from each RP on; objects before the first RP are dropped
 
 abbrev pub reply_groups : List Object → List (List Object)
 reply_groups os = (cut (closes_by closers.Rp) true os).1
@@ -98,7 +98,7 @@ report_groups (o ∷ os) = all_groups (cut (closes_by closers.Report) false (o �
 abbrev pub notice_of : List Object → Notice
 notice_of os = record { ids = filter_map (λ o. rp_in o.body) os; kinds = filter_map (λ o. notification_in o.body) os }
 
--- what is said first
+-- the first that objects say
 abbrev pub first_said : {X : Type 0} → (Body → Option X) → List Object → Option X
 first_said what [] = None
 first_said what (o ∷ os) = option_or (what o.body) (first_said what os)

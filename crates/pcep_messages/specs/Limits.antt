@@ -1,4 +1,4 @@
--- How much a request may name, as numbers: those that the constants of the code are.
+-- How much a request may name, as numbers. The constants in the code are proved to be these numbers.
 use Rattle.std.specs.Prelude.{◌≡◌}
 use Rattle.pcep_messages.specs.declared.limits.TheConstants.{EXCLUSIONS_MAX, SEQUENCE_MAX}
 

@@ -31,7 +31,7 @@ abbrev pub close_in : Body → Option ℕ
 close_in (bodies.Close reason) = Some reason
 close_in _ = None
 
--- a message that the first object makes, which has to be of its kind; the others are no part of it
+-- a message made by its first object, which has to be of its kind; the other objects are no part of it
 abbrev pub alone : Message → Result (List Object) Bad → Result Message Bad
 alone message (Ok os) = Ok message
 alone message (Err e) = Err e
@@ -40,7 +40,7 @@ abbrev pub of_its_kind : {X : Type 0} → (X → Message) → Option X → Resul
 of_its_kind message (Some x) others = alone (message x) others
 of_its_kind message None others = Err (Malformed 4)
 
--- what the first object says
+-- the content of the first object
 abbrev pub said_at_first : {X : Type 0} → (Body → Option X) → Result (Object × ℕ) (ℕ → ObjectFault) → Option X
 said_at_first what (Ok x) = what x.0.body
 said_at_first what (Err fault) = None
@@ -48,7 +48,7 @@ said_at_first what (Err fault) = None
 abbrev pub made_by_first : {X : Type 0} → (Body → Option X) → (X → Message) → Result (Object × ℕ) (ℕ → ObjectFault) → Result (List Object) Bad → Result Message Bad
 made_by_first what message first all = of_its_kind message (said_at_first what first) all
 
--- a message that all its objects make
+-- a message made by all its objects
 abbrev pub made_of : ℕ → List Object → Message
 made_of kind os =
     if kind == types.PCREQ then messages.PcReq (map asked_of (requests_of os))
@@ -75,11 +75,11 @@ message_of (first ∷ kind ∷ high ∷ low ∷ bytes) =
     if first / 32 == VERSION then (if 256 * high + low == length bytes + 4 then content_of kind bytes else Err (Malformed 0)) else Err (Malformed 0)
 message_of _ = Err (Malformed 0)
 
--- the message stands in the frame
+-- the frame is read as this message
 abbrev pub Reads : List ℕ → Message → Type 0
 Reads frame m = message_of frame ≡ Ok m
 
--- What a call answered is what is read. Want of memory is told only where there is no fault.
+-- A call answered what is read. It answers "out of memory" only where there is no fault.
 abbrev pub Gives : {X : Type 0} → Result X Bad → Result X Bad → Type 0
 Gives (Ok x) read = read ≡ Ok x
 Gives (Err NoMemory) read = IsOk read

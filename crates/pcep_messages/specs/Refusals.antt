@@ -24,7 +24,7 @@ Reason = Option (ℕ × ℕ)
 abbrev pub because : Bool → ℕ × ℕ → Reason
 because applies error = if applies then Some error else None
 
--- what the first rule that applies says
+-- the first rule that applies
 abbrev pub first_of : List Reason → Reason
 first_of [] = None
 first_of (r ∷ rs) = option_or r (first_of rs)
@@ -95,7 +95,7 @@ is_minimised o = bit_of (metric_in o.body)
 abbrev pub is_metric : ℕ → Bool
 is_metric kind = nat_le metrics.IGP kind && nat_le kind metrics.HOPS
 
--- each METRIC of one type, at most one to be minimised and one a bound
+-- each METRIC of one type, with at most one to be minimised and at most one bound
 abbrev pub agree_on : ℕ → List Object → Bool
 agree_on kind os = list_all (λ m. m.1 == kind) (metrics_of os) && (nat_le (count_by is_bound os) 1 && nat_le (count_by is_minimised os) 1)
 

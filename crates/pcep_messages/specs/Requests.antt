@@ -101,7 +101,7 @@ pub record Asks (own : ℕ) (os : List Object) (r : Request) : Type 0 where
   pub rp : without_bit (rp_of os) ≡ Some (r.flags, r.id)
   pub wish : wish_of own os ≡ Some r.wish
 
--- What a call answered: what the objects ask for, or the first error with what the RP says, unless memory ran out.
+-- The answer of a call: the wish of the objects, or the first error with the flags and number of the RP, unless memory ran out.
 abbrev pub Answers : ℕ → List Object → Result Request Refusal → Type 0
 Answers own os (Ok r) = Asks own os r
 Answers own os (Err (refusals.Wire rp kind value)) = (refusal_of own os ≡ Some (kind, value)) × (rp ≡ without_bit (rp_of os))

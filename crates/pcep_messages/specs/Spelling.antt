@@ -133,7 +133,7 @@ HasShape (messages.PcErr reports) = OthersHaveIds (λ (r : ErrorReport). r.ids) 
 HasShape (messages.Other kind) = ⊥
 HasShape _ = Unit {0}
 
--- a message whose spelling gives it back
+-- a message that is read again from its spelling
 pub record IsWritten (m : Message) : Type 0 where
   pub shape : HasShape m
   pub objects : AllByRecursion objects.IsWritten (objects_in m)

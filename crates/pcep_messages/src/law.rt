@@ -1,4 +1,4 @@
-//! What splitting and grouping keep, as laws.
+//! Laws of splitting and grouping: nothing is lost.
 ghost use Rattle.pcep_messages.specs.Wholes.{RepliesAreWhole, ReportsAreWhole, RequestsAreWhole, SplitsWhole};
 
 /// A frame stays alone, or its parts joined are its content, with one RP each.

@@ -29,7 +29,7 @@ pub struct Asked {
     pub objects: List<Object>,
 }
 
-// Written, so that it is proved once: a derived one is proved anew in each crate that drops a value.
+// Written by hand, so that it is proved once: a derived one would be proved again in each crate that drops a value.
 impl Drop for Asked {
     fn drop(self) {
         let Asked { objects: _ } = self;
@@ -44,7 +44,7 @@ pub struct Reply {
     pub answer: Answer,
 }
 
-/// What a request is answered.
+/// The answer to a request.
 #[derive(Drop)]
 pub enum Answer {
     Paths(List<Path>),
@@ -66,7 +66,7 @@ pub struct Notice {
     pub kinds: List<(u8, u8)>,
 }
 
-// Written, so that it is proved once: a derived one is proved anew in each crate that drops a value.
+// Written by hand, so that it is proved once: a derived one would be proved again in each crate that drops a value.
 impl Drop for Notice {
     fn drop(self) {
         let Notice { ids: _, kinds: _ } = self;
@@ -81,7 +81,7 @@ pub struct ErrorReport {
     pub opening: Option<OpenBody>,
 }
 
-// Written, so that it is proved once: a derived one is proved anew in each crate that drops a value.
+// Written by hand, so that it is proved once: a derived one would be proved again in each crate that drops a value.
 impl Drop for ErrorReport {
     fn drop(self) {
         let ErrorReport {
@@ -126,7 +126,7 @@ pub enum Wish {
 }
 
 /// A path that is asked for. The words of BANDWIDTH and of the bound, and the masks of LSPA, are
-/// those that were asked with; the query is what they mean. `sequence` is the IRO's.
+/// as in the request; the query is their meaning. `sequence` is the IRO's.
 #[derive(Drop)]
 pub struct Wanted {
     pub source: Addr,

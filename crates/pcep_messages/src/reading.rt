@@ -16,7 +16,7 @@ use pcep_codes::{VERSION, messages};
 use pcep_objects::{Body, Object, OpenBody, read_object};
 use std::alloc::Global;
 
-/// What an OPEN says that a message begins with.
+/// The OPEN at the front of a message.
 fn opening_at(alloc: Global, bytes: &[u8]) -> Option<OpenBody>
     ensures { result ≡ said_at_first opening_in (object_at bytes.now) }
 {
@@ -90,7 +90,7 @@ fn groups_of_reports(alloc: Global, objects: List<Object>) -> Result<List<List<O
     cut_groups(alloc, Closer::Report, false, objects)
 }
 
-/// What all the objects of a message make.
+/// The message that all its objects make.
 fn made(alloc: Global, kind: u8, objects: List<Object>) -> Result<Message, NoMemory>
     ensures { IfOk result (λ m. m ≡ made_of kind objects) }
 {
@@ -141,7 +141,7 @@ fn content(alloc: Global, kind: u8, bytes: &[u8]) -> Result<Message, Bad>
 
 /// The message that a frame is (RFC 5440, section 6), or the place at fault. Reserved bits, message
 /// flags and the I bit are not read, and of a frame of another type no more than the header. A fault
-/// is told even where there is no memory.
+/// is answered even when out of memory.
 pub fn read_message(alloc: Global, frame: &[u8]) -> Result<Message, Bad>
     ensures { Gives result (message_of frame.now) }
 {

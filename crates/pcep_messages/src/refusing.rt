@@ -88,7 +88,7 @@ fn find_unsupported_object(objects: &[Object], own: As) -> Option<(u8, u8)>
     None
 }
 
-/// The flags and the number of a request, or the error that it is answered with whatever it asks for.
+/// The flags and the number of a request, or an error that does not depend on what it asks for.
 pub(crate) fn find_request(objects: &[Object], own: As) -> Result<(u32, u32), (u8, u8)>
     ensures { MatchResult result
         (λ rp. (first_of (request_rules own.0 objects.now) ≡ None) × (rp_of objects.now ≡ Some (rp, true)))
@@ -129,7 +129,7 @@ fn agree(objects: &[Object], kind: u8) -> bool
     are_of_type(objects, kind) && count_bounds(objects) <= 1 && count_minimised(objects) <= 1
 }
 
-/// What the path is measured by, unless there is no one metric with at most one bound.
+/// The measure of the path, unless there is no one metric with at most one bound.
 fn find_metric(objects: &[Object]) -> Option<Metric>
     ensures { result ≡ (if are_measures objects.now then Some (metric_of_type (asked_type (metrics_of objects.now))) else None) }
 {

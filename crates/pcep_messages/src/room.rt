@@ -10,8 +10,8 @@ use crate::message::{Answer, Asked, ErrorReport, Message, Notice, Path, Reply};
 use pcep_codes::{classes, kinds};
 use pcep_objects::{Body, Object, room_behind_object, room_behind_route};
 
-// Each function says how many octets of a room are left behind a text, and None where the text has
-// no room.
+// Each function answers how many of `room` octets are left behind a text, and None where the text
+// is longer.
 
 fn behind(class: u8, must: bool, body: Body, room: usize) -> Option<usize>
     ensures { IsLeftBehind (object_text (first_kind class must body)) room result }

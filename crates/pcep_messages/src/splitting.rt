@@ -55,7 +55,7 @@ fn frame(alloc: Global, first: u8, kind: u8, content: &[u8]) -> Result<Bytes, No
     Ok(List::from_vec(text))
 }
 
-/// A frame for each RP, with what stands behind it up to the next one; what stands before the first goes with it.
+/// A frame for each RP, with the objects up to the next RP; objects before the first RP go with the first.
 fn frames(alloc: Global, first: u8, kind: u8, objects: &[Bytes]) -> Result<List<Bytes>, NoMemory>
     ensures { IfOk result (λ f. f ≡ map (frame_with first kind) (groups_of (up_to_rp objects.now))) }
 {
@@ -117,8 +117,8 @@ fn split(
     }
 }
 
-/// A PCReq or PCRep with several RPs as a message for each, in order; what stands before the first RP
-/// goes with it. Any other frame, and one whose objects have other lengths than octets, is given back
+/// A PCReq or PCRep with several RPs as a message for each, in order; objects before the first RP
+/// go with it. Any other frame, and one whose objects have other lengths than octets, is returned
 /// alone. Bodies are not read.
 pub fn split_message(alloc: Global, frame: &[u8]) -> Result<List<Bytes>, NoMemory>
     ensures { IfOk result (λ f. f ≡ split_of frame.now) }

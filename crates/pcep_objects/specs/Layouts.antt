@@ -15,7 +15,7 @@ of_length len content malformed body = if malformed then None else (if length co
 abbrev pub word_behind : ℕ → List ℕ → ℕ → Result (Option ℕ) TlvFault
 word_behind len content kind = if nat_le len (length content) then word_among kind (tlvs_of (drop len content)) else Err PastEnd
 
--- a body that TLVs stand behind
+-- a body with TLVs behind it
 abbrev pub with_tlvs : Result (Option ℕ) TlvFault → (Option ℕ → Body) → Option Body
 with_tlvs (Ok word) body = Some (body word)
 with_tlvs (Err e) body = None

@@ -1,4 +1,4 @@
-//! Objects of messages, and what is at fault in octets that are none.
+//! Objects of messages, and the faults of octets that are no object.
 ghost use Rattle.std.specs.Prelude.{◌≡◌};
 ghost use Rattle.pcep_objects.specs.declared.object.ObjectFault.TheVariants as faults;
 
@@ -16,7 +16,7 @@ pub struct Object {
     pub body: Body,
 }
 
-// Written, so that it is proved once: a derived one is proved anew in each crate that drops a value.
+// Written by hand, so that it is proved once: a derived one would be proved again in each crate that drops a value.
 impl Drop for Object {
     fn drop(self) {
         let Object {
@@ -29,7 +29,7 @@ impl Drop for Object {
 }
 
 impl Object {
-    /// What stands behind its header.
+    /// The body, without the header.
     pub fn into_body(self) -> Body
         ensures { result ≡ self.body }
     {
@@ -46,12 +46,12 @@ impl Object {
 /// What an OPEN object says (RFC 5440, section 7.3).
 #[derive(Clone, Copy)]
 pub struct OpenBody {
-    /// The version of the protocol, below 8; 1 is the one that is spoken.
+    /// The version of the protocol, below 8; version 1 is in use.
     pub version: u8,
     pub offer: Offer,
 }
 
-/// What stands behind the header of an object. The sections are those of RFC 5440, where no other
+/// The body of an object, behind the header. The sections are those of RFC 5440, where no other
 /// standard is named.
 #[derive(Drop)]
 pub enum Body {
@@ -110,14 +110,14 @@ pub enum Body {
     Unread(Bytes),
 }
 
-/// Why no object stands at the front of some octets.
+/// Why octets do not begin with an object.
 #[derive(Clone, Copy, Debug)]
 pub enum ObjectFault {
     /// The octets end inside the object.
     Short,
     /// Its length is below 4 or no multiple of 4.
     BadLength,
-    /// Its body is no body of its class and type.
+    /// Its body does not have the form of its class and type.
     BadBody,
     NoMemory,
 }

@@ -1,4 +1,4 @@
-//! Octets behind what is written.
+//! Octets at the end of a text.
 ghost use Rattle.std.specs.Prelude.{◌≡◌, ◌++◌, OnOk};
 
 use dom_base::NoMemory;

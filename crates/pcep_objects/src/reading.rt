@@ -56,8 +56,8 @@ fn object(
     Ok((object, content.len() + 4))
 }
 
-/// The first object, and how many octets it takes (RFC 5440, section 7.2). A fault is told even
-/// where there is no memory.
+/// The first object, and how many octets it takes (RFC 5440, section 7.2). A fault is answered even
+/// when out of memory.
 pub fn read_object(alloc: Global, bytes: &[u8]) -> Result<(Object, usize), ObjectFault>
     ensures found { Gives result (object_at bytes.now) }
     ensures some { IfOk result (λ x. 4 ≤ x.1) }

@@ -37,8 +37,8 @@ pub(crate) fn room_behind_body(body: &Body, room: usize) -> Option<usize>
     }
 }
 
-/// How many octets of a room are left behind the text of an object; None exactly where the text has
-/// no room. Takes no memory.
+/// How many of `room` octets are left behind the text of an object; None exactly where the text is
+/// longer than that. Takes no memory.
 pub fn room_behind_object(object: &Object, room: usize) -> Option<usize>
     ensures { IsLeftBehind (object_text object.now) room result }
 {

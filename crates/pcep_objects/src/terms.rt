@@ -1,4 +1,4 @@
-//! What a session goes by.
+//! The terms of a session.
 ghost use Rattle.std.specs.Prelude.{◌≡◌};
 ghost use Rattle.pcep_objects.specs.Terms.{agreed_of};
 

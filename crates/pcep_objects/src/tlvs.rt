@@ -1,4 +1,4 @@
-//! What stands in TLVs behind the fixed part of a body.
+//! The TLVs behind the fixed part of a body.
 ghost use Rattle.std.specs.Prelude.{◌≡◌, ◌+◌, ◌≤◌, ◌++◌, length, take, drop, IfOk, OnOk};
 ghost use Rattle.std.specs.Option.{option_or};
 ghost use Rattle.pcep_objects.specs.Layouts.{word_behind};

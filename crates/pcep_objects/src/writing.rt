@@ -73,7 +73,7 @@ fn put_body(text: &mut Vec<u8>, body: &Body) -> Result<(), NoMemory>
 }
 
 /// Appends the text of an object. Its type is written modulo 16, its length modulo 65,536 and the
-/// version of an OPEN modulo 8; reserved bits and padding are 0. After a refusal a part of the text
+/// version of an OPEN modulo 8; reserved bits and padding are 0. On `NoMemory` a part of the text
 /// may stand there.
 pub fn write_object(object: &Object, text: &mut Vec<u8>) -> Result<(), NoMemory>
     ensures { OnOk result (text.new.items ≡ text.old.items ++ object_text object.now) }
@@ -91,7 +91,7 @@ pub fn write_object(object: &Object, text: &mut Vec<u8>) -> Result<(), NoMemory>
     put_body(text, &object.body)
 }
 
-/// Appends the text of an ERO of this route, with P clear. After a refusal a part of the text may
+/// Appends the text of an ERO of this route, with P clear. On `NoMemory` a part of the text may
 /// stand there.
 pub fn write_route(route: &List<Hop>, text: &mut Vec<u8>) -> Result<(), NoMemory>
     ensures { OnOk result (text.new.items ≡ text.old.items ++ route_text route.now) }

@@ -1,4 +1,4 @@
--- In which order a session says what it says, over all lists of inputs.
+-- The order of a session's actions, over all lists of inputs.
 use Rattle.std.specs.Prelude.{◌≡◌, ◌≤◌, ℕ, ◌+◌, List, [], ◌∷◌, ◌++◌}
 use Rattle.dom_base.specs.declared.names.Tick.{Tick}
 use Rattle.pcep_objects.specs.declared.offer.Offer.{Offer}
@@ -41,7 +41,7 @@ opens [] = 0
 opens (Got (OpenMessage body) ∷ inputs) = 1 + opens inputs
 opens (_ ∷ inputs) = opens inputs
 
--- what holds of a session from its start, after any inputs, and at the next one
+-- the order of a session's actions from its start, over any inputs and the next one
 pub record IsOrdered (start : State) (inputs : List Input) (input : Input) : Type 0 where
   pub up_once : ups (done_over start inputs) ≤ 1
   pub down_once : downs (done_over start inputs) ≤ 1

@@ -95,7 +95,7 @@ keep_wait s (PcErr reports) = refused s (first_error_of reports) (first_opening_
 keep_wait s (CloseMessage reason) = ends s Peer
 keep_wait s _ = fails s errors.INVALID_OPEN
 
--- a moment that stands within the last 59 seconds
+-- a moment within the last 59 seconds
 abbrev pub is_recent : State → Option Tick → Bool
 is_recent s None = false
 is_recent s (Some at) = nat_le s.clock.0 (at.0 + timers.UNKNOWN_SPAN)

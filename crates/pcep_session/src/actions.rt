@@ -1,4 +1,4 @@
-//! What a step of a session asks for.
+//! The actions that a step of a session asks for.
 ghost use Rattle.std.specs.Prelude.{◌≡◌, [], ◌∷◌, IsSome};
 ghost use Rattle.pcep_session.specs.Table.{error_of};
 
@@ -33,7 +33,7 @@ pub enum Reason {
     Peer,
 }
 
-/// What a step of a session asks for.
+/// An action that a step of a session asks for.
 #[derive(Drop)]
 pub enum Action {
     Send(Own),

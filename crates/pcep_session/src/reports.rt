@@ -1,4 +1,4 @@
-//! What a message of errors says first.
+//! The first error and the first OPEN of a message of errors.
 ghost use Rattle.std.specs.Prelude.{◌≡◌};
 ghost use Rattle.pcep_session.specs.Reports.{first_error_of, first_opening_of};
 

@@ -11,7 +11,7 @@ use pcep_messages::Message;
 use pcep_objects::Offer;
 use std::marker::Model;
 
-/// What comes to a session.
+/// An input to a session.
 #[derive(Drop)]
 pub enum Input {
     /// The connection is open.
@@ -70,8 +70,8 @@ impl Session {
         self.state.step(input)
     }
 
-    /// The step of a tick, where the session has nothing to say or to do at it, and whether that is so;
-    /// where it is not, the session stays as it was. It takes no memory, and makes no actions.
+    /// A tick that may be silent: where the session has nothing to say or to do, its clock goes on and the
+    /// answer is true; else the session stays as it was. Takes no memory, and makes no actions.
     pub fn tick_quietly(&mut self, now: Tick) -> bool
         ensures quiet { result ≡ is_quiet now self.old }
         ensures next { self.new ≡ after_quiet now self.old }

@@ -38,7 +38,7 @@ pub struct State {
     pub phase: Phase,
     /// Whether the offer was changed once, as the peer asked.
     pub retried: bool,
-    /// What holds for this side; of it the Keepalive is that of its last Open.
+    /// The terms that hold for this side; their Keepalive is that of its last Open.
     pub agreed: Agreed,
     /// The last tick.
     pub clock: Tick,
@@ -399,7 +399,7 @@ impl State {
         }
     }
 
-    // A tick comes at which there is nothing to say or to do. A session that is over takes no moment.
+    // A tick at which there is nothing to say or to do. A session that is over ignores it.
     #[tactic(auto, using(crate::proofs::QuietLemmas::quiet_next))]
     fn take_tick(&mut self, now: Tick)
         requires { is_quiet now self.old ≡ true }

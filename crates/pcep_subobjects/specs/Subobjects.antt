@@ -5,7 +5,7 @@ use Rattle.dom_base.specs.Parts.{Reader}
 use Rattle.pcep_subobjects.specs.declared.hop.HopFault.{HopFault}
 use Rattle.pcep_subobjects.specs.declared.hop.HopFault.TheVariants as faults
 
--- a length that a subobject of a type that is not known may have
+-- a length that a subobject of an unknown type may have
 abbrev pub is_whole_words : ℕ → Bool
 is_whole_words len = if len % 4 == 0 then nat_le 4 len else false
 
@@ -31,12 +31,12 @@ AreOctets bytes = All (λ (b : ℕ). b < 256) bytes
 abbrev pub HasOctets : ℕ → List ℕ → Type 0
 HasOctets kind body = (kind < 128) × (2 ≤ length body) × (length body ≤ 250) × ((length body + 2) % 4 ≡ 0) × AreOctets body
 
--- What a call answered is what is read. Want of memory is told only where there is no fault.
+-- A call answered what is read. It answers "out of memory" only where there is no fault.
 abbrev pub Gives : {X : Type 0} → Result X HopFault → Result X HopFault → Type 0
 Gives (Ok x) read = read ≡ Ok x
 Gives (Err faults.NoMemory) read = IsOk read
 Gives (Err f) read = read ≡ Err f
 
--- How many octets of a room are left behind a text: none can be told exactly where the text has no room.
+-- How many octets of a room are left behind a text: None exactly where the text is longer than the room.
 abbrev pub IsLeftBehind : List ℕ → ℕ → Option ℕ → Type 0
 IsLeftBehind text room left = SomeIff left (length text ≤ room) (room - length text)

@@ -33,7 +33,7 @@ pub(crate) fn copy_hop(alloc: Global, hop: &Hop) -> Result<Hop, NoMemory>
     })
 }
 
-/// Appends copies of hops. After a refusal some of them may stand there.
+/// Appends copies of hops. On `NoMemory` some of them may stand there.
 pub fn append_hops(alloc: Global, hops: &mut List<Hop>, more: &[Hop]) -> Result<(), NoMemory>
     ensures { OnOk result (hops.new ≡ hops.old ++ more.now) }
 {

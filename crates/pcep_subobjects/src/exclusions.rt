@@ -49,7 +49,7 @@ impl Subobject for Exclusion {
     }
 }
 
-/// Whether what stands behind the flags of an XRO is exclusions, or its first fault; takes no
+/// Checks that the octets behind the flags of an XRO are exclusions, and answers the first fault; takes
 /// memory.
 pub fn check_exclusions(bytes: &[u8]) -> Result<(), HopFault>
     ensures { Checks result (exclusions_of bytes.now) }
@@ -58,7 +58,7 @@ pub fn check_exclusions(bytes: &[u8]) -> Result<(), HopFault>
 }
 
 /// The exclusions of an XRO behind its flags (RFC 5521, section 2.1; RFC 4874, section 3.1), or the
-/// first fault. A fault is told even where there is no memory.
+/// first fault. A fault is answered even when out of memory.
 pub fn read_exclusions(alloc: Global, bytes: &[u8]) -> Result<List<Exclusion>, HopFault>
     ensures { Gives result (exclusions_of bytes.now) }
 {
@@ -114,15 +114,15 @@ impl Spelled for Exclusion {
 }
 
 /// Appends the text of the exclusions. The type of another subobject is written modulo 128 and its
-/// length modulo 256. After a refusal a part of the text may stand there.
+/// length modulo 256. On `NoMemory` a part of the text may stand there.
 pub fn write_exclusions(list: &[Exclusion], text: &mut Vec<u8>) -> Result<(), NoMemory>
     ensures { OnOk result (text.new.items ≡ text.old.items ++ exclusions_text list.now) }
 {
     write_parts(list, text)
 }
 
-/// How many octets of a room are left behind the text of the exclusions; None exactly where the
-/// text has no room. Takes no memory.
+/// How many of `room` octets are left behind the text of the exclusions; None exactly where the text
+/// is longer than that. Takes no memory.
 pub fn room_behind_exclusions(list: &[Exclusion], room: usize) -> Option<usize>
     ensures { IsLeftBehind (exclusions_text list.now) room result }
 {

@@ -1,4 +1,4 @@
-//! A step of a route, and what is at fault in octets that are none.
+//! A step of a route, and the faults of octets that are no step.
 ghost use Rattle.std.specs.Prelude.{◌≡◌};
 ghost use Rattle.pcep_subobjects.specs.declared.hop.HopFault.TheVariants as faults;
 
@@ -18,7 +18,7 @@ pub enum Hop {
     Other { loose: bool, kind: u8, body: Bytes },
 }
 
-// Written, so that it is proved once: a derived one is proved anew in each crate that drops a value.
+// Written by hand, so that it is proved once: a derived one would be proved again in each crate that drops a value.
 impl Drop for Hop {
     fn drop(self) {
         match self {

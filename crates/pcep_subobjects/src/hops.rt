@@ -76,7 +76,7 @@ pub fn strict_hop(addr: Addr) -> Hop
     }
 }
 
-/// Whether a route object's body is hops, or its first fault; takes no memory.
+/// Checks that a route object's body is hops, and answers the first fault; takes no memory.
 pub fn check_hops(bytes: &[u8]) -> Result<(), HopFault>
     ensures { Checks result (hops_of bytes.now) }
 {
@@ -84,7 +84,7 @@ pub fn check_hops(bytes: &[u8]) -> Result<(), HopFault>
 }
 
 /// The hops of a route object's body (RFC 3209, section 4.3.3; RFC 5520, section 3.1), or its first
-/// fault. A fault is told even where there is no memory.
+/// fault. A fault is answered even when out of memory.
 pub fn read_hops(alloc: Global, bytes: &[u8]) -> Result<List<Hop>, HopFault>
     ensures { Gives result (hops_of bytes.now) }
 {
@@ -153,7 +153,7 @@ impl Spelled for Hop {
 }
 
 /// Appends the text of the hops. Each prefix is written as a strict hop to one address. The type of
-/// another subobject is written modulo 128 and its length modulo 256. After a refusal a part of the
+/// another subobject is written modulo 128 and its length modulo 256. On `NoMemory` a part of the
 /// text may stand there.
 pub fn write_hops(hops: &[Hop], text: &mut Vec<u8>) -> Result<(), NoMemory>
     ensures { OnOk result (text.new.items ≡ text.old.items ++ hops_text hops.now) }
@@ -161,8 +161,8 @@ pub fn write_hops(hops: &[Hop], text: &mut Vec<u8>) -> Result<(), NoMemory>
     write_parts(hops, text)
 }
 
-/// How many octets of a room are left behind the text of the hops; None exactly where the text has
-/// no room. Takes no memory.
+/// How many of `room` octets are left behind the text of the hops; None exactly where the text is
+/// longer than that. Takes no memory.
 pub fn room_behind_hops(hops: &[Hop], room: usize) -> Option<usize>
     ensures { IsLeftBehind (hops_text hops.now) room result }
 {

@@ -1,4 +1,4 @@
-//! Parts that stand one behind the other: found, read, written and measured in one way.
+//! Parts that follow one another: one way to find, read, write and measure them.
 ghost use Rattle.std.specs.Prelude.{◌≡◌, ◌<◌, ◌≤◌, ◌+◌, ◌^◌, ◌++◌, ℕ, List, IfOk, IsOk, OnOk, length};
 ghost use Rattle.std.specs.List.{flat_map};
 ghost use Rattle.dom_base.specs.Parts.{Reader, parts_from};
@@ -9,7 +9,7 @@ use crate::octets::COMMON_OCTETS;
 use dom_base::{List, NoMemory};
 use std::alloc::Global;
 
-// Room for at most so many parts is taken from the start, where nothing is known of their lengths.
+// Memory for at most this many parts is taken at the start, when their lengths are not yet known.
 const FEW_PARTS: usize = 8;
 
 /// A part that is read from octets. `F` is what can be at fault, told by its place.
@@ -36,11 +36,11 @@ pub trait Spelled {
     /// The octets of the part.
     ghost spelling: { Self → List ℕ };
 
-    /// Appends the octets. After a refusal a part of them may stand there.
+    /// Appends the octets. On `NoMemory` a part of them may stand there.
     fn put(&self, text: &mut Vec<u8>) -> Result<(), NoMemory>
         ensures { OnOk result (text.new.items ≡ text.old.items ++ spelling self.now) };
 
-    /// How many octets of a room are left behind the part; None exactly where it has no room.
+    /// How many of `room` octets are left behind the part; None exactly where the part is longer.
     fn room_behind(&self, room: usize) -> Option<usize>
         ensures { IsLeftBehind (spelling self.now) room result };
 }
@@ -103,7 +103,7 @@ pub fn build_parts<F, P: Part<F>>(
     build_parts_within(alloc, count, start, bytes)
 }
 
-/// Appends the octets of parts, one behind the other. After a refusal some of them may stand there.
+/// Appends the octets of parts, one behind the other. On `NoMemory` some of them may stand there.
 pub(crate) fn write_parts<P: Spelled>(list: &[P], text: &mut Vec<u8>) -> Result<(), NoMemory>
     ensures { OnOk result (text.new.items ≡ text.old.items ++ flat_map P.spelling list.now) }
 {
@@ -113,7 +113,7 @@ pub(crate) fn write_parts<P: Spelled>(list: &[P], text: &mut Vec<u8>) -> Result<
     Ok(())
 }
 
-/// How many octets of a room are left behind parts; None exactly where they have no room. Takes no
+/// How many of `room` octets are left behind parts; None exactly where the parts are longer. Takes no
 /// memory.
 pub(crate) fn room_behind_parts<P: Spelled>(list: &[P], room: usize) -> Option<usize>
     ensures { IsLeftBehind (flat_map P.spelling list.now) room result }

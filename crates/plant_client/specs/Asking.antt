@@ -1,4 +1,4 @@
--- How a client asks a network for a path: the lines that are played for it, what it receives, and why it does not come to that.
+-- How a client asks a network for a path: the lines that are played for it, what it receives, and why it may fail.
 use Rattle.std.specs.Prelude.{◌≡◌, ℕ, List, [], ◌∷◌, ◌++◌, map, Option, Some, None, Ok, Err}
 use Rattle.std.specs.List.{flat_map}
 use Rattle.plant_play.specs.plant_model.Types.{As, LineEvent, ElementRow, NetworkParts}
@@ -126,7 +126,7 @@ pub record Asks (files : Option Files) (n : NetworkParts) (client : ℕ) (questi
   pub end : PlayedNetwork
   pub receives : Receives files client asked received end
 
--- ---- why it does not come to that
+-- ---- why it fails
 
 -- The topologies before one are loaded, and its file stops it.
 pub record StopsAtFile (files : Option Files) (topologies : List (As × List ℕ)) (old : PlayedNetwork) (counts : ℕ × ℕ) (failed_at : List ℕ) (why : Stop) : Type 0 where
@@ -139,12 +139,12 @@ pub record StopsAtFile (files : Option Files) (topologies : List (As × List ℕ
   pub end : PlayedNetwork
   pub stops : IsFileStop files topology.1 (load_line topology) loaded end counts failed_at why
 
--- want of memory says nothing
+-- "out of memory" says nothing
 abbrev pub LoadsStop : Option Files → List (As × List ℕ) → PlayedNetwork → ℕ × ℕ → List ℕ → Stop → Type 0
 LoadsStop files topologies old counts failed_at stop.NoMemory = Unit {0}
 LoadsStop files topologies old counts failed_at why = StopsAtFile files topologies old counts failed_at why
 
--- Over a network of these settings that has just been made, the file of a topology stops it, or memory lacks.
+-- Over a network of these settings that has just been made, the file of a topology stops it, or memory runs out.
 abbrev pub AskStops : Option Files → NetworkParts → ℕ × ℕ → List ℕ → Stop → Type 0
 AskStops files n counts failed_at stop.NoMemory = Unit {0}
 AskStops files n counts failed_at why =

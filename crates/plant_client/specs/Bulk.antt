@@ -58,7 +58,7 @@ pub record IsBulk (d : Demand) (n : ℕ) (received : List (List ℕ)) : Type 0 w
 abbrev pub bulk_turns : {d : Demand} {n : ℕ} {received : List (List ℕ)} → IsBulk d n received → List Turn
 bulk_turns {d} {n} {received} b = b.begins.lines.turns ++ b.turns
 
--- what the answers of such a run come to
+-- the tally of the answers of such a run
 abbrev pub IsTallied : Demand → ℕ → Tally → Type 0
 IsTallied d n tally = (received : List (List ℕ)) × IsBulk d n received × (tally ≡ tally_of received)
 

@@ -7,5 +7,5 @@ pub mod Requests
 pub mod Bulk
 pub mod Tallies
 pub mod TallyText
--- handed on from below
+-- re-exported from below
 pub use Rattle.plant_play.specs as plant_play

@@ -1,4 +1,4 @@
--- What is asked of the drawn network, request by request.
+-- The requests to the drawn network, one by one.
 use Rattle.std.specs.Prelude.{ℕ, ◌+◌, List, Some, map}
 use Rattle.std.specs.List.{range_with_len}
 use Rattle.plant_client.specs.declared.question.Question.{Question}

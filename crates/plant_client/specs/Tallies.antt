@@ -1,4 +1,4 @@
--- What the answers to many requests come to.
+-- The tally of the answers to many requests.
 use Rattle.std.specs.Prelude.{ℕ, ◌+◌, max, Bool, true, false, List, [], ◌∷◌, length, sum, count_by, Option, Some, None}
 use Rattle.std.specs.List.{filter_map}
 use Rattle.plant_client.specs.declared.hearing.Heard.{Heard}

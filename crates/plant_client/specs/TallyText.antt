@@ -1,4 +1,4 @@
--- The line that tells what the answers come to.
+-- The line that tells the tally.
 use Rattle.std.specs.Prelude.{ℕ, List, [], ◌∷◌, ◌++◌, codes, decimal}
 use Rattle.plant_client.specs.declared.tally.Tally.{Tally}
 

@@ -66,7 +66,7 @@ fn topologies(alloc: Global, rows: &[ElementRow]) -> Result<Vec<(As, Text)>, NoM
 
 // ---- lines that are played
 
-// Plays a line; nobody reads what is told of it.
+// Plays a line; nobody reads its transcript.
 fn play_line<S: Store>(
     alloc: Global,
     store: &mut S,

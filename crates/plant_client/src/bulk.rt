@@ -36,7 +36,7 @@ fn network(alloc: Global) -> Result<Network, NoMemory>
     }
 }
 
-// Puts the request behind so many others; gives what is received.
+// Puts the request behind so many others; returns what is received.
 fn ask_next<S: Store>(
     alloc: Global,
     store: &mut S,
@@ -58,7 +58,7 @@ fn ask_next<S: Store>(
     }
 }
 
-// Puts so many requests; gives what their answers come to.
+// Puts so many requests; returns the tally of their answers.
 fn ask_all<S: Store>(
     alloc: Global,
     store: &mut S,
@@ -80,8 +80,8 @@ fn ask_all<S: Store>(
     Ok(tally)
 }
 
-// A network over the drawn files begins. They are those of its settings; were one refused, it would be told as want of
-// memory.
+// A network over the drawn files begins. They are those of its settings; a refused file would be answered by
+// `NoMemory`.
 fn begun(alloc: Global, store: &mut MemoryStore) -> Result<Player, NoMemory>
     ensures begins { IfOk result (λ player. Begins (Some (file_named store.old.files)) network client (played_network player)) }
     ensures files { Some (file_named store.new.files) ≡ Some (file_named store.old.files) }
@@ -111,7 +111,7 @@ fn play_over(
 }
 
 /// Draws the network and as many requests, and puts them one behind the other, each when the network has come to its
-/// end; gives what the answers come to.
+/// end; returns the tally of the answers.
 pub fn play(alloc: Global, demand: Demand, count: u16) -> Result<Tally, NoMemory>
     requires few { count ≤ requests_most }
     ensures tallied { IfOk result (IsTallied demand count) }

@@ -1,4 +1,4 @@
-//! A client that asks a network for paths, and what it is told; and one that asks a large network many, and what they are answered in all.
+//! A client that asks a network for paths, and its answers; and a client that asks a large network many times, and the tally of its answers.
 #![tactic(auto)]
 
 mod asking;

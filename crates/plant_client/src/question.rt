@@ -1,4 +1,4 @@
-//! What a client asks for, and the bytes that it sends.
+//! The question of a client, and the bytes that it sends.
 ghost use Rattle.std.specs.Prelude.{◌≡◌, ◌≤◌, length, IfOk, OnOk};
 ghost use Rattle.std.specs.Option.{option_to_list};
 ghost use Rattle.pcep_subobjects.specs.Subobjects.{AreOctets};

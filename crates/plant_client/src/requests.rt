@@ -1,4 +1,4 @@
-//! What is asked for.
+//! The requests to the drawn network.
 ghost use Rattle.std.specs.Prelude.{◌≡◌, ◌≤◌, ◌<◌, ◌+◌, ◌*◌, length, IfOk, OnOk};
 ghost use Rattle.network_files.specs.DrawnFiles.{links_draws};
 ghost use Rattle.plant_client.specs.Requests.{question, requests_most, word_of};
@@ -11,9 +11,9 @@ use std::alloc::Global;
 /// The bandwidth that each request asks for, in octets a second.
 #[derive(Clone, Copy)]
 pub enum Demand {
-    /// So that a link without any bandwidth is no way.
+    /// One octet a second, so that a link without any bandwidth is no way.
     One,
-    /// So that every link is a way.
+    /// None, so that bandwidth excludes no link.
     Zero,
 }
 

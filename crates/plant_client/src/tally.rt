@@ -1,4 +1,4 @@
-//! What the answers to many requests come to.
+//! The tally of the answers to many requests.
 ghost use Rattle.std.specs.Prelude.{◌≡◌, ◌+◌, [], IfOk};
 ghost use Rattle.plant_client.specs.Tallies.{tally_of, with_heard};
 
@@ -25,7 +25,7 @@ fn add(total: u64, more: u64) -> Result<u64, NoMemory>
 }
 
 impl Tally {
-    /// Of no answer.
+    /// The tally of no answer.
     pub(crate) fn new() -> Tally
         ensures { result ≡ tally_of [] }
     {

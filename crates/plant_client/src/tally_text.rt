@@ -1,4 +1,4 @@
-//! The line that tells what the answers come to.
+//! The line that tells the tally.
 ghost use Rattle.std.specs.Prelude.{◌≡◌, ◌++◌, IfOk, OnOk, decimal};
 ghost use Rattle.plant_client.specs.TallyText.{tally_text};
 

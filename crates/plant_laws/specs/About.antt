@@ -1,4 +1,4 @@
--- What an answer is about: the request that is open, and the chain that it took; or the parent, which asked its children.
+-- The subject of an answer: the request that is open, and the chain that it took; or the parent, which asked its children.
 use Rattle.std.specs.Prelude.{◌≡◌, ◌≤◌, ℕ, Bool, true, false, List, [], ◌∷◌, ◌++◌, Contains, Option, Some, bit_and}
 use Rattle.plant_model.specs.Types.{As, Addr, Peer, Inner, Query, Reply, Path, Request, Wanted, NetworkParts, Issued, Metric, Answer, Branch}
 use Rattle.te_links.specs.Rows.{Rows}
@@ -28,7 +28,7 @@ use Rattle.plant_laws.specs.Transcript.{Transcript, Within, opened, Delivered, H
 use Rattle.plant_laws.specs.Ends.{End, goal_of, ChainEnds}
 use Rattle.plant_laws.specs.Shown.{ShowsAlong}
 
--- no id comes round
+-- no id wraps around
 abbrev pub IsShort : Transcript → Type 0
 IsShort now = (a b : As) → asks a b now ≤ id_most
 

@@ -1,5 +1,5 @@
--- Each message of a run has its cause, and where the cause stands it is put out: HasCause says of a deed why it was done and what it
--- put out, SaysAll that what calls for a deed has one. MessageCauses has what is said to a message.
+-- Each message of a run has its cause, and where the cause holds it is sent. HasCause says of a deed why it was done and what it
+-- sent, SaysAll that each cause of a deed has its deed. MessageCauses has the answers to a message.
 use Rattle.std.specs.Prelude.{◌≡◌, ◌≢◌, ◌⊎◌, ◌%◌, ℕ, true, false, cond, List, [], ◌∷◌, ◌++◌, Contains, Option, Some, Ok}
 use Rattle.plant_model.specs.Types.{As, Tick, Peer, Outside, Inner, Message, Input, Action, Own, State as Session, NetworkParts}
 use Rattle.pcep_session.specs.declared.session.Input.TheVariants as input
@@ -71,7 +71,7 @@ module _ (c : Codec) (n : NetworkParts) (before : Plant) (e : Event) where
     from_inside : (a : As) (bytes : Bytes) (rest : List Bytes) → e ≡ event.Carry a at → is_linked n a at ≡ true → before.queues a at ≡ bytes ∷ rest →
         c.read bytes ≡ Some m → (turn_of (before.sessions at a) (input.Got m)).actions ≡ action.Pass m ∷ [] → p ≡ Inner a → Passes at p m
 
-  -- what is said to it
+  -- the messages in answer to it
   pub data OnPassed (at : As) (p : Peer) (m : Message) (os : List Output) : Type 0 where
     by_element : same_as at parent_as ≡ false → OnMessage c n at (before.current at) p before.clock m (before.elements at) os → OnPassed at p m os
     by_parent : same_as at parent_as ≡ true → OnMessageAbove c n p m before.parent os → OnPassed at p m os
@@ -96,7 +96,7 @@ module _ (c : Codec) (n : NetworkParts) (before : Plant) (e : Event) where
     of_element : (d : As) (k : ℕ) → e ≡ event.Solve d k → ElementTells c n before d k (deed ∷ []) → OfSolve deed
     of_parent : (k : ℕ) → e ≡ event.Solve parent_as k → ParentTells c n before k (deed ∷ []) → OfSolve deed
 
-  -- Why a deed of the event was done that puts something out, and what it puts out. The others put out nothing.
+  -- Why a deed of the event was done that sends something, and what it sends. The other deeds send nothing.
   abbrev pub HasCause : Transcript → PlantDeed → Type 0
   HasCause earlier (Takes at p m os) = Passes at p m × OnPassed at p m os
   HasCause earlier (Downs at p os) =
@@ -120,13 +120,13 @@ module _ (c : Codec) (n : NetworkParts) (before : Plant) (e : Event) where
     ended_along : (a b : As) (bytes : Bytes) (rest : List Bytes) → e ≡ event.Carry a b → ((at ≡ a) × (p ≡ Inner b)) ⊎ ((at ≡ b) × (p ≡ Inner a)) → is_linked n a b ≡ true →
         before.queues a b ≡ bytes ∷ rest → any_fall (turn_of (before.sessions b a) (input_of c (Some bytes))).actions ≡ true → Falls at p
 
-  -- the last words of a session that breaks its link are not sent
+  -- the last messages of a session that breaks its link are not sent
   abbrev pub LinkStays : Peer → List Action → Type 0
   LinkStays (Outside i) actions = Unit {0}
   LinkStays (Inner a) actions = any_fall actions ≡ false
 
-  -- What is passed on is taken, where a session goes down what is lost is answered, and but at a tick a session says what its table calls
-  -- for.
+  -- A message that is passed on is taken, lost requests are answered where a session goes down, and except at a tick a session says what its
+  -- table calls for.
   pub record SaysAll (deeds : Transcript) : Type 0 where
     pub passed : (at : As) (p : Peer) (m : Message) → Passes at p m → (os : List Output) × Contains deeds (Takes at p m os)
     pub fell : (at : As) (p : Peer) → Falls at p → (os : List Output) × Contains deeds (Downs at p os)
@@ -138,7 +138,7 @@ abbrev pub MessagesHaveCauses : Type 0
 MessagesHaveCauses = (c : Codec) (n : NetworkParts) (es : List Entry) (before : Plant) → Run c n es before → (e : Event) (h : Happened) → Steps c n before e h → (o : Outcome) → h.answer ≡ Ok o →
     HaveCauses c n before e h.deeds × SaysAll c n before e h.deeds
 
--- what stands before the first event: an Open at each end of each link, one link after the other, the lower end first
+-- the deeds before the first event: an Open at each end of each link, one link after the other, the lower end first
 abbrev pub an_open : As → As → PlantDeed
 an_open at b = Says at (record { to = Inner b; message = own_message (own.Open (our_offer 0)) })
 

@@ -1,4 +1,4 @@
--- What is said of every run: a request has one chain, and in a quiet state the chain of a pending request ends at an outside peer.
+-- Laws of every run: a request has one chain, and in a quiet state the chain of a pending request ends at an outside peer.
 use Rattle.std.specs.Prelude.{◌≡◌, ◌≢◌, ℕ, Bool, false, cond, is_some, Contains, List, [], ◌∷◌, Option, Some, None}
 use Rattle.plant_model.specs.Types.{As, Peer, Outside, Inner, NetworkParts}
 use Rattle.plant_model.specs.Routes.{StaysInside}

@@ -1,4 +1,4 @@
--- A run stays within its network: nothing stands in a queue but along links, nothing is pending but at elements, and at the parent
+-- A run stays within its network: only queues along links hold messages, only elements have pending requests, besides the parent
 -- where there is one, and an outside peer that the settings do not have has no connection.
 use Rattle.std.specs.Prelude.{◌≡◌, ℕ, false, is_some, List, [], None}
 use Rattle.plant_model.specs.Types.{As, NetworkParts}

@@ -1,5 +1,5 @@
--- Ids count requests. As long as no id comes round, the last id of an element towards a neighbour is the number of the requests
--- that it sent there, what waits has no greater id, so the next request gets the next number, and no id is given twice.
+-- Ids count requests. As long as no id wraps around, the last id of an element towards a neighbour is the number of the requests
+-- that it sent there, no request that waits has a greater id, so the next request gets the next number, and no id is given twice.
 use Rattle.std.specs.Prelude.{◌≡◌, ◌≢◌, ◌≤◌, ◌<◌, ℕ, suc, List, Contains, Some}
 use Rattle.plant_model.specs.Types.{As, Addr, Wanted, NetworkParts, Inner}
 use Rattle.plant_text.specs.Names.{parent_as}

@@ -32,7 +32,7 @@ abbrev pub Tells : Answer → List Path → Type 0
 Tells (Paths told) paths = told ≡ paths
 Tells (NoPath nature vector) paths = (nature ≡ no_paths.NONE_FOUND) × (paths ≡ [])
 
--- A reply of an outside peer is what is heeded of what it said, about a request that was sent on through so many domains.
+-- Of an outside peer, a reply is what the element heeds of what the peer said, about a request that was sent on through so many domains.
 abbrev pub IsHeeded : Codec → Peer → ℕ → Reply → Type 0
 IsHeeded c (Inner b) domains reply = Unit {0}
 IsHeeded c (Outside i) domains reply = (said : Reply) × (reply ≡ heeded_by c (Some domains) said)

@@ -1,4 +1,4 @@
--- What is said of every run of the paths and refusals that clients get.
+-- Laws of every run about the paths and refusals that clients get.
 use Rattle.std.specs.Prelude.{◌≡◌, ◌≢◌, ◌⊎◌, ℕ, true, List, [], ◌∷◌, Some, None}
 use Rattle.plant_model.specs.Types.{As, Reply, Path, Request, Wanted, NetworkParts, Outside}
 use Rattle.plant_laws.specs.Ends.{End, goal_of}

@@ -41,5 +41,5 @@ pub mod Resting
 pub mod Lasting
 -- inner
 pub mod Onward
--- handed on from below
+-- re-exported from below
 pub use Rattle.plant_model.specs as plant_model

@@ -30,7 +30,7 @@ pub record IsMatched (c : Codec) (now : Transcript) (a b : As) (h : Row Pin) (y 
   pub is_open : opened c a h.1.key.peer h.1.key.id now ≡ Some sending
   pub answering : Answering c a b y sending deed older
 
--- In every state of a run in which no id came round, of each reply that stands in an inner queue.
+-- In every state of a run in which no id wrapped around, of each reply that stands in an inner queue.
 abbrev pub RepliesMatchIn : Codec → NetworkParts → List Entry → Plant → Type 0
 RepliesMatchIn c n es s =
     (a b : As) → a ≢ parent_as → (r : Reply) (put : Transcript) → Contains (standing b a (deeds_of c n es)) (record { message = messages.PcRep (r ∷ []); put = put }) →

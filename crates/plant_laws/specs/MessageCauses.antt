@@ -1,6 +1,6 @@
 -- Why elements and the parent put out what they put out for their peers, by cases of what came (RFC 5440, sections 6 and 7; RFC 5441,
--- section 5; RFC 6805, section 4.6). Each case tells the whole list of what is said, so where its cause stands this is said, and
--- nothing else is. That an answer of paths, or that there are none, is right is said in Solves and Headline.
+-- section 5; RFC 6805, section 4.6). Each case gives the whole list of messages, so where its cause holds these are sent, and no
+-- others. That an answer of paths, or that there are none, is right is said in Solves and Headline.
 use Rattle.std.specs.Prelude.{◌≡◌, ◌⊎◌, ℕ, Bool, true, false, List, [], ◌∷◌, ◌++◌, map, Contains, Option, Some, None}
 use Rattle.plant_model.specs.Types.{As, Addr, Peer, Inner, Message, Asked, Reply, Notice, ErrorReport, Answer, Request, Wanted, NetworkParts}
 use Rattle.pcep_codes.specs.declared.errors.TheConstants as errors
@@ -66,7 +66,7 @@ pub record WaitsAbove (k : Parent) (p : Peer) (y : ℕ) (a : Asker) : Type 0 whe
   pub id : wait.id ≡ y
   pub asked : a ≡ record { peer = row.1.key.peer; flags = row.1.item.flags; id = row.1.key.id }
 
--- ---- what comes back from where requests were sent: Waiting has whoever waits for it
+-- ---- answers from where requests were sent: Waiting has whoever waits for one
 
 abbrev pub IsNobody : (Asker → Type 0) → Type 0
 IsNobody Waiting = (a : Asker) → ¬ Waiting a
@@ -220,7 +220,7 @@ module _ (K : Type 0) (Waiting : K → ℕ → Asker → Type 0) (OnAsked : Aske
   OnParts [] k os = os ≡ []
   OnParts (x ∷ xs) k os = (first : List Output) × (rest : List Output) × (os ≡ first ++ rest) × OnPart x k first × OnParts xs (left (alone x) k) rest
 
--- What an element says to a message of the peer p, with this pin of its newest topology.
+-- The messages with which an element answers a message of the peer p, with this pin of its newest topology.
 abbrev pub OnMessage : Codec → NetworkParts → As → Pin → Peer → ℕ → Message → Element Pin Segment → List Output → Type 0
 OnMessage c n d pin p now m k os =
     OnParts (Element Pin Segment) (λ k'. WaitsAt k' p) (OnRequest c n d p now) (λ m' k'. (taking.take c open_of (place n d) pin p (class_of n p) now m' k').element) (same_peer p the_parent) p (parts m) k os

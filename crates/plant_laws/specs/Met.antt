@@ -18,7 +18,7 @@ pub record RunOf (c : Codec) (n : NetworkParts) : Type 0 where
 abbrev pub run_of : (c : Codec) (n : NetworkParts) (es : List Entry) (s : Plant) → Run c n es s → RunOf c n
 run_of c n es s run = record { entries = es; state = s; run = run }
 
--- The event of the run that did the deed, behind what older has, met this state. What stands before the first event was done by none.
+-- The event of the run that did the deed, behind what older has, met this state. The deeds before the first event are of no event.
 abbrev pub Meets : (c : Codec) (n : NetworkParts) (es : List Entry) (s : Plant) → Run c n es s → PlantDeed → Transcript → Plant → Type 0
 Meets c n [] s run deed older before = ⊥
 Meets c n (e ∷ es) s run deed older before =

@@ -1,4 +1,4 @@
--- What a pending request is, by the transcript: it was delivered, and pins the topology that was the last one loaded before.
+-- A pending request, by the transcript: it was delivered, and pins the topology that was the last one loaded before.
 use Rattle.std.specs.Prelude.{◌≡◌, Some}
 use Rattle.plant_model.specs.Types.{As, Request, NetworkParts}
 use Rattle.pcep_messages.specs.declared.message.Wish.TheVariants as wishes

@@ -1,4 +1,4 @@
--- Every message that an outside peer's element takes is what is heeded of one that was read from bytes, and came from a peer of
+-- Every message that an outside peer's element takes is what the element heeds of one that was read from bytes and came from a peer of
 -- the settings.
 use Rattle.std.specs.Prelude.{◌≡◌, ℕ, true, is_some, List, [], ◌∷◌, Option, Some}
 use Rattle.plant_model.specs.Types.{NetworkParts, Message, Outside}

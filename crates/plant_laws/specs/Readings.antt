@@ -1,4 +1,4 @@
--- What is taken is what was meant, as long as all that was sent is in written form: from an inner queue the message that stood
+-- A message is taken as it was meant, as long as all messages sent are in written form: from an inner queue the message that stood
 -- there first, and requests one at a time.
 use Rattle.std.specs.Prelude.{◌≡◌, List, ◌∷◌, length}
 use Rattle.plant_model.specs.Types.{As, Peer, Inner, Asked, Message, NetworkParts}
@@ -27,7 +27,7 @@ MessagesAreReadIn c n es s = AreReadings c n es
 abbrev pub MessagesAreRead : Type 0
 MessagesAreRead = InShortRuns MessagesAreReadIn
 
--- Of requests the same, also where ids come round: what replies say has no part in it.
+-- Of requests the same, also where ids wrap around: the content of replies does not matter for it.
 pub record AreRequestReadings (c : Codec) (n : NetworkParts) (es : List Entry) : Type 0 where
   pub queues : (a b : As) (asks : List Asked) (os : List Output) (older : Transcript) → Within (Takes b (Inner a) (messages.PcReq asks) os ∷ older) (deeds_of c n es) → IsFromQueue a b (messages.PcReq asks) older
   pub single : (at : As) (p : Peer) (asks : List Asked) (os : List Output) (older : Transcript) → Within (Takes at p (messages.PcReq asks) os ∷ older) (deeds_of c n es) → length asks ≡ 1

@@ -1,4 +1,4 @@
--- What elements tell their neighbours and the parent: for each entry the least cost of the rest of the chain, and nothing where
+-- The replies of elements to their neighbours and the parent: for each entry the least cost of the rest of the chain, and nothing where
 -- there is no walk.
 use Rattle.std.specs.Prelude.{◌≡◌, ◌≢◌, ◌⊎◌, ℕ, true, false, List, [], ◌∷◌, Contains}
 use Rattle.plant_model.specs.Types.{As, Addr, Peer, Reply, Path, Request, Wanted, Class, NetworkParts, Issued}

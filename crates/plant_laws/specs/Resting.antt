@@ -1,5 +1,5 @@
 -- A network at rest: all that was fed was taken, no message is on its way along a link, and no job of an element or the parent can be
--- solved. Quiet is said of all numbers of domains; in a run nothing stands elsewhere, so at rest it is quiet.
+-- solved. Quiet is a statement about all numbers of domains; in a run nothing stands elsewhere, so a network at rest is quiet.
 use Rattle.std.specs.Prelude.{◌≡◌, ℕ, true, false, List, []}
 use Rattle.plant_model.specs.Types.{As, NetworkParts}
 use Rattle.plant_text.specs.Settings.{is_linked}

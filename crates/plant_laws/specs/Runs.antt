@@ -1,4 +1,4 @@
--- The runs of which the laws speak.
+-- The runs that the laws are about.
 use Rattle.std.specs.Prelude.{◌≡◌, List}
 use Rattle.plant_model.specs.Types.{NetworkParts, Asked, Message}
 use Rattle.plant_model.specs.Wire.{Codec}

@@ -1,6 +1,6 @@
 -- What became of a request when a network is quiet: it had its one answer, which tells of paths, or that there is no room, the chain is
 -- not available or it failed, for a reason on its own way; or its peer gave it up; or it waits for an outside peer that was asked. No
--- error answers it but that its chain failed, as an outside peer does not serve it.
+-- error answers it except that its chain failed, since an outside peer does not serve it.
 use Rattle.std.specs.Prelude.{◌≡◌, ◌≢◌, ℕ, List, [], ◌∷◌, Contains, Some}
 use Rattle.plant_model.specs.Types.{As, Peer, Reply, NetworkParts}
 use Rattle.pcep_messages.specs.declared.message.Message.TheVariants as messages

@@ -1,4 +1,4 @@
--- In every state of a run the inner queues hold the texts of what stands in them by the transcript, and the current pin of an
+-- In every state of a run the inner queues hold the texts of the messages that the transcript shows in them, and the current pin of an
 -- element is of the topology last loaded.
 use Rattle.std.specs.Prelude.{◌≡◌, List, [], ◌∷◌}
 use Rattle.plant_model.specs.Types.{As, Message, NetworkParts}

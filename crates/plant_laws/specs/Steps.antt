@@ -1,5 +1,5 @@
--- A step is one thing: in a state of a run an event has one answer, one state after it and one list of deeds, but that it may be
--- refused for want of memory.
+-- A step is determined: in a state of a run an event has one answer, one state after it and one list of deeds, or it is refused when
+-- out of memory.
 use Rattle.std.specs.Prelude.{◌≡◌, List}
 use Rattle.plant_model.specs.Types.{NetworkParts}
 use Rattle.plant_model.specs.declared.event.Event.{Event}

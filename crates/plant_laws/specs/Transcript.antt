@@ -1,4 +1,4 @@
--- What is read off a transcript: pinned topologies, open requests, what stands in queues, and the chain of a request.
+-- What is read off a transcript: pinned topologies, open requests, the messages in queues, and the chain of a request.
 use Rattle.std.specs.Prelude.{◌≡◌, ◌⊎◌, ◌+◌, ℕ, suc, Bool, true, false, cond, ◌==◌, List, [], ◌∷◌, ◌++◌, Contains, Option, Some, None}
 use Rattle.plant_model.specs.Types.{As, Peer, Inner, Asked, Reply, Notice, ErrorReport, Message, Request, Wish, Issued}
 use Rattle.te_links.specs.Rows.{Rows}
@@ -157,13 +157,13 @@ abbrev pub tail_of : {A : Type 0} → List A → List A
 tail_of [] = []
 tail_of (x ∷ xs) = xs
 
--- what a deed leaves of the queue from a to b
+-- the queue from a to b after a deed
 abbrev pub left_of : {A : Type 0} {S : Type 0} → Deed S → As → As → List A → List A
 left_of (Pops from to) a b xs = cond (same_as from a) (cond (same_as to b) (tail_of xs) xs) xs
 left_of (Clears one other) a b xs = cond (same_link one other a b) [] xs
 left_of e a b xs = xs
 
--- what stands in the queue from a to b: what was put there since the link last broke and was not taken, in order
+-- the messages in the queue from a to b: those that were put there since the link last broke and were not taken, in order
 abbrev pub standing : As → As → Transcript → List Standing
 standing a b [] = []
 standing a b (e ∷ older) = left_of e a b (standing a b older) ++ standing_of (e ∷ older) (put_into b (outputs_at a e))

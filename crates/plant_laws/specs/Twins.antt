@@ -11,7 +11,7 @@ use Rattle.plant_model.specs.Plant.{Pin, Plant, Entry, Steps, IsGiven, opened, d
 use Rattle.plant_model.specs.Blind.{heard, is_accepted}
 use Rattle.plant_model.specs.Laws.{IsNetwork}
 
--- what a run goes to by an entry
+-- a run goes from one state to another by an entry
 abbrev pub Goes : Codec → NetworkParts → Plant → Entry → Plant → Type 0
 Goes c n s e t = IsGiven e.event × Steps c n s e.event (record { answer = e.answer; state = t; deeds = e.deeds })
 

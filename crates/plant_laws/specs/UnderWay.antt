@@ -1,5 +1,5 @@
--- What waits is under way: the request is in the queue of the next, pending there, or answered in the queue back; or an outside peer
--- was asked, of which nothing is known but what it says.
+-- A request that waits is under way: it is in the queue of the next, pending there, or answered in the queue back; or an outside peer
+-- was asked, about which only its own messages tell.
 use Rattle.std.specs.Prelude.{◌≡◌, ◌≢◌, ◌≤◌, ℕ, List, [], ◌∷◌, Contains}
 use Rattle.plant_model.specs.Types.{As, Addr, Peer, Outside, Inner, Message, Wanted, NetworkParts}
 use Rattle.request_table.specs.Pending.{key_of}
@@ -28,7 +28,7 @@ pub data GoesOn (c : Codec) (n : NetworkParts) (s : Plant) (d : As) (h : Row Pin
   outside : (i : ℕ) (b : As) (rest : List As) → on ≡ Outside i → toward b (place n d).routes ≡ Outside i → h.1.item.sequence ≡ d ∷ b ∷ rest → GoesOn c n s d h on id
   upward : on ≡ Inner parent_as → h.1.item.sequence ≡ [] → IsUnderWay c s d parent_as id [] → GoesOn c n s d h on id
 
--- What waits is under way.
+-- Each request that waits is under way.
 pub record AreUnderWay (c : Codec) (n : NetworkParts) (s : Plant) : Type 0 where
   pub elements : (d : As) (h : Row Pin) (on : Peer) (id : ℕ) → Contains (s.elements d).pending.rows h → h.1.item.stage ≡ Waits on id → GoesOn c n s d h on id
   pub parent : (h : AskingRow) (w : Wait) → Contains s.parent.pending.rows h → Contains h.1.item.waits w → (w.child ≢ parent_as) × IsUnderWay c s parent_as w.child w.id (w.child ∷ [])

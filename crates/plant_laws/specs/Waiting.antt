@@ -39,7 +39,7 @@ wait_alike (Waits p x) (Waits q y) = same_id p x q y
 wait_alike (Waits p x) (Ready branches) = false
 wait_alike (Ready branches) stage = false
 
--- No two requests of an element wait for the answer to one id of a peer, also where ids came round.
+-- No two requests of an element wait for the answer to one id of a peer, also where ids wrapped around.
 abbrev pub WaitsApartIn : Codec → NetworkParts → List Entry → Plant → Type 0
 WaitsApartIn c n es s =
     (d : As) (h g : Row Pin) → Contains (s.elements d).pending.rows h → Contains (s.elements d).pending.rows g →

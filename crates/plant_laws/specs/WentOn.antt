@@ -1,4 +1,4 @@
--- To which peer an open request went on, and under which id.
+-- The peer to which an open request went on, and the id under which it did.
 use Rattle.std.specs.Prelude.{◌≡◌, ◌≢◌, ℕ, List, Some}
 use Rattle.plant_model.specs.Types.{As, Peer, Outside, Wanted, NetworkParts}
 use Rattle.plant_model.specs.Routes.{StaysInside}

@@ -1,4 +1,4 @@
--- What a network without topologies says on the disclosed trace of a run, and that it is all that closed peers hear.
+-- A network without topologies says on the disclosed trace of a run just what closed peers hear in that run.
 use Rattle.std.specs.Prelude.{◌≡◌, ◌<◌, true, List, [], ◌∷◌, ◌++◌, AllPairs}
 use Rattle.plant_model.specs.Types.{Addr, BorderRow, Ask, NetworkParts}
 use Rattle.te_links.specs.Rows.{Rows, IsInOrder}

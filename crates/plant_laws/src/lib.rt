@@ -1,5 +1,5 @@
 //! The laws of a network of path computation elements, over all its runs. They are the contracts of calls that do nothing; each
-//! statement stands in one file of specs/. Laws that fail where ids come round are of the runs in which no element and no parent
+//! statement stands in one file of specs/. Laws that fail once ids wrap around are of the runs in which no element and no parent
 //! sends a neighbour more requests than there are ids.
 //!
 //! And jobs last: a request that can be solved stays as it is until it ends, in every step.
@@ -46,7 +46,7 @@ pub use lasting::{
 
 // ---- steps
 
-/// An event has one answer, one state after it and one list of deeds, but for want of memory.
+/// An event has one answer, one state after it and one list of deeds, unless memory runs out.
 pub fn steps_are_one()
     ensures { StepsAreOne }
 {}
@@ -63,7 +63,7 @@ pub fn answers_are_least()
     ensures none { NoneAnswers }
 {}
 
-/// What an element replies to its neighbours and the parent is, for each entry, of least cost among all
+/// The replies of an element to its neighbours and the parent are, for each entry, of least cost among all
 /// walks through the rest of the domains, or over what an outside peer told of them, and an entry without a path
 /// has none.
 pub fn replies_are_least()
@@ -107,7 +107,7 @@ pub fn waits_are_under_way()
 {}
 
 /// Each path request that is accepted is pending, or is answered exactly once, or was dropped as its peer
-/// cancelled it or went down. Whatever else answers under its id answers a message that asks under it anew.
+/// cancelled it or went down. Any other answer under its id answers a message that asks under it anew.
 pub fn requests_are_answered_once()
     ensures { RequestsAreAnsweredOnce }
 {}
@@ -191,25 +191,25 @@ pub fn all_is_written()
     ensures { InShortRuns AllIsWritten }
 {}
 
-/// All requests that are sent in a run are in written form, also where ids come round.
+/// All requests that are sent in a run are in written form, also where ids wrap around.
 pub fn requests_are_written()
     ensures { InRuns RequestsAreWritten }
 {}
 
-// ---- what stands by the transcript
+// ---- what the transcript shows
 
-/// In every state of a run the inner queues hold the texts of what stands in them by the transcript.
+/// In every state of a run the inner queues hold the texts of the messages that the transcript shows in them.
 pub fn queues_stand()
     ensures { QueuesStand }
 {}
 
-/// In every state of a run nothing stands in a queue but along links, nothing is pending but at elements, and at the
+/// In every state of a run only queues along links hold messages, and only elements have pending requests, besides the
 /// parent where there is one, and an outside peer that the settings do not have has no connection.
 pub fn runs_are_confined()
     ensures { RunsAreConfined }
 {}
 
-/// A network at rest is quiet, so what is said of quiet states is said of it.
+/// A network at rest is quiet, so the laws of quiet states hold for it.
 pub fn rest_is_quiet()
     ensures { RestIsQuiet }
 {}
@@ -237,7 +237,7 @@ pub fn messages_are_read()
     ensures { MessagesAreRead }
 {}
 
-/// The same of requests alone, also where ids come round.
+/// The same of requests alone, also where ids wrap around.
 pub fn requests_are_read()
     ensures { RequestsAreRead }
 {}
@@ -259,8 +259,8 @@ pub fn waits_apart()
     ensures { WaitsApart }
 {}
 
-/// The last id of an element towards a neighbour is the number of the requests that it sent there, what
-/// waits has no greater id, and no id is given twice.
+/// The last id of an element towards a neighbour is the number of the requests that it sent there, no request
+/// that waits has a greater id, and no id is given twice.
 pub fn ids_count()
     ensures counts { IdsCount }
     ensures differ { ElementIdsDiffer }
@@ -276,8 +276,8 @@ pub fn replies_match()
 
 // ---- causes
 
-/// Each message that an element or the parent puts out in a run has its cause, and where the cause stands it
-/// is put out.
+/// Each message that an element or the parent sends in a run has its cause, and where the cause holds it
+/// is sent.
 pub fn messages_have_causes()
     ensures causes { MessagesHaveCauses }
     ensures begin { NetworksBegin }
@@ -285,14 +285,14 @@ pub fn messages_have_causes()
 
 /// An error between elements and the parent names no request, or answers a reply, or says that the parent
 /// serves IPv4 alone; or, between elements, that a chain failed, since an outside peer that was asked does
-/// not serve the request. None of their own is out of the profile.
+/// not serve the request. None of their own requests is out of the profile.
 pub fn inner_errors()
     ensures { InnerErrors }
 {}
 
 /// Each reply of an element, or the parent, that the chain is not available has a reason on the way of its
-/// request. Where paths go on through no outside peer, no request goes on to one, so that no reason of these
-/// laws is of such a peer.
+/// request. Where paths go on through no outside peer, no request goes on to one, and then no reason in these
+/// laws is about such a peer.
 pub fn broken_for_reasons()
     ensures reasons { BrokenForReasons }
     ensures inside { NoneGoOut }
@@ -311,14 +311,14 @@ pub fn requests_are_served()
     ensures { RequestsAreServed }
 {}
 
-/// Where policy allows each step on the way of an accepted request, over sessions that are up and stay up, with
-/// room in each table and keys enough, and what the parent asks for it is answered, as is what an outside peer is
-/// asked, then in the next quiet state it had its one answer: paths, or that there are none.
+/// In the next quiet state an accepted request had its one answer, paths or that there are none, where policy allows
+/// each step on its way, over sessions that are up and stay up, with room in each table and keys enough, and where what
+/// the parent asks for it is answered, as is what an outside peer is asked for it.
 pub fn good_requests_are_served()
     ensures { GoodRequestsAreServed }
 {}
 
-/// There are such requests: all that is asked of one holds together in a run over PCEP, in which a client's request goes
+/// There are such requests: all these conditions hold together in a run over PCEP, in which a client's request goes
 /// through two domains.
 pub fn good_requests_exist()
     ensures { HasGoodRequest }
@@ -326,8 +326,8 @@ pub fn good_requests_exist()
 
 // ---- over PCEP
 
-/// Over the wire of PCEP, with no premise but the rules of settings and the number of ids: what clients and
-/// closed peers are answered, certificates, quiet and what is under way. And with no premise but the rules of
+/// Over the wire of PCEP, with no premises except the rules of settings and the number of ids: the answers to clients and
+/// closed peers, certificates, quiet and the requests that wait. And with no premise except the rules of
 /// settings: one answer and one chain for each request, and what a key shows to whom.
 pub fn laws_over_pcep()
     ensures paths { OverPcep LeastAnswersIn }

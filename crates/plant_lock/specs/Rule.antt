@@ -1,5 +1,5 @@
 -- The rule of the ticket lock, which holds between any two steps.
--- Word 0 is the next ticket, word 1 the ticket that is served, which is the length of the history. Slot 0 has the value, but while a seat whose ticket is served has the slot.
+-- Word 0 is the next ticket, word 1 the ticket that is served, which is the length of the history. Slot 0 has the value, except while a seat whose ticket is served has the slot.
 use Rattle.std.specs.Prelude.{◌≡◌, ℕ, ◌+◌, ◌^◌, ◌<◌, ◌≤◌, List, [], ◌∷◌, length, Some}
 use mathlib.Core.Option.{some}
 use mathlib.Core.Option as maybe

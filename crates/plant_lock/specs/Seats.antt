@@ -1,4 +1,4 @@
--- What contracts see of a turnstile and of its seats.
+-- A turnstile and its seats, as contracts see them.
 use Rattle.std.specs.Prelude.{◌≡◌, ℕ, List}
 use Rattle.plant_lock.specs.declared.seat.TurnSeat.{TurnSeat}
 use Rattle.plant_lock.specs.declared.seat.Turnstile.{Turnstile}

@@ -34,7 +34,7 @@ impl Counter {
         Counter { sum: 0 }
     }
 
-    /// What was added in all.
+    /// The sum of all that was added.
     pub fn sum(&self) -> u64
         ensures { result ≡ self.now }
     {

@@ -1,4 +1,4 @@
-//! What is done with a turnstile and its seats.
+//! The calls of a turnstile and its seats.
 ghost use Rattle.std.specs.Prelude.{◌≡◌, ◌+◌, ◌-◌, ◌^◌, ◌<◌, ◌≤◌, ◌↔◌, [], ◌∷◌, ◌++◌, IsTrue, IfOk, IfErr, OnOk, OnErr, MatchResult};
 ghost use Rattle.plant_lock.specs.declared.view.SeatStage.TheVariants.{Idle, Waits, Serves};
 ghost use Rattle.plant_lock.specs.declared.turnstile.SplitError.TheVariants.{NoSeat};

@@ -61,7 +61,7 @@ module _ (c : Codec) (n : NetworkParts) where
   abbrev pub done : Going Nothing Nothing → BlindHappened
   done g = record { answer = Ok Done; state = g.state; deeds = g.deeds }
 
-  -- what the rows join to: nothing where a client asked, whose answer nobody closed sees
+  -- what the rows join to: nothing where a client asked, since no closed peer sees the answer to a client
   abbrev pub Joined : Item Nothing → List BorderRow → List Branch → List Best → Type 0
   Joined i rows down best =
       cond (is_client i.class) (best ≡ [])
@@ -96,7 +96,7 @@ module _ (c : Codec) (n : NetworkParts) where
   BlindHappens s (blind.Solve d k rows) h = SolveHappens d k rows s h
   BlindHappens s e h = h ≡ happened s e
 
-  -- whether an event may be refused for want of memory: not where it takes none
+  -- whether an event may be refused when out of memory: only where it takes memory
   abbrev pub needs_memory : BlindState → BlindEvent → Bool
   needs_memory s (blind.Shut i) = false
   needs_memory s (blind.Feed i bytes) = events.takes_feed (s.accesses i).connection
@@ -104,7 +104,7 @@ module _ (c : Codec) (n : NetworkParts) where
   needs_memory s (blind.Tick t) = false
   needs_memory s _ = true
 
-  -- A step: what happens, or want of memory, which changes nothing.
+  -- A step: what happens, or out of memory, which changes nothing.
   abbrev pub BlindSteps : BlindState → BlindEvent → BlindHappened → Type 0
   BlindSteps s e h = BlindHappens s e h ⊎ ((needs_memory s e ≡ true) × (h ≡ events.refused Nothing Nothing c n show_nothing NoMemory s))
 
@@ -141,12 +141,12 @@ abbrev pub heard_in : {S : Type 0} → Codec → NetworkParts → Deed S → Lis
 heard_in c n (Hands i bytes) = cond (is_closed n (Outside i)) (Drained i bytes ∷ []) []
 heard_in c n d = heard_of n (sent_in c d)
 
--- what closed peers hear of deeds, the newest of which comes first in the list, in order
+-- what closed peers hear of deeds, in order; the list of deeds has the newest first
 abbrev pub heard : {S : Type 0} → Codec → NetworkParts → List (Deed S) → List Heard
 heard c n [] = []
 heard c n (d ∷ ds) = heard c n ds ++ heard_in c n d
 
--- What the blind plant says on a trace, the newest event first, and the state that it comes to.
+-- What the blind plant says on a trace, the newest event first, and the state after it.
 abbrev pub BlindSays : Codec → NetworkParts → List BlindEvent → List Heard → BlindState → Type 0
 BlindSays c n [] hs b = (hs ≡ heard c n (blind_opened c n).deeds) × (b ≡ (blind_opened c n).state)
 BlindSays c n (x ∷ older) hs b =
@@ -182,7 +182,7 @@ abbrev pub is_accepted : events.Answered → Bool
 is_accepted (Ok o) = true
 is_accepted (Err r) = false
 
--- The trace after an event: a refused one and a load leave it.
+-- The trace after an event. A refused event and a load do not change it.
 abbrev pub Traces : Codec → NetworkParts → Plant → Entry → List BlindEvent → List BlindEvent → Type 0
 Traces c n s e earlier trace =
     cond (is_accepted e.answer)

@@ -75,7 +75,7 @@ Shows j (u ∷ us) v c hs = record {
   is_hops : hs ≡ edge.hops ++ below;
 }
 
--- what a job of the parent is answered
+-- the answer to a job of the parent
 pub record Found : Type 0 where
   pub cost : ℕ
   pub hops : List Hop

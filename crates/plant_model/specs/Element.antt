@@ -100,7 +100,7 @@ sent_through p y rows = option_map (λ h. length (drop 1 h.1.item.sequence)) (wa
 abbrev pub id_most : ℕ
 id_most = 4294967295
 
--- Ids towards a peer rise from 1, and 1 follows the last. One that waits is passed over.
+-- Ids towards a peer rise from 1, and 1 follows the last. An id that waits is skipped.
 abbrev pub after_id : ℕ → ℕ
 after_id n = cond (n == id_most) 1 (suc n)
 
@@ -149,7 +149,7 @@ kept p hs = filter (stays p) hs
 abbrev pub lost : {P : Type 0} → Peer → List (Row P) → List Lost
 lost p hs = map lost_of (filter (is_lost p) hs)
 
--- what a lost request is answered
+-- the answer to a lost request
 abbrev pub lost_output : Lost → Output
 lost_output l = record { to = l.to; message = reply_message l.flags l.id unavailable }
 

@@ -57,7 +57,7 @@ is_down phase.OpenWait = false
 is_down phase.KeepWait = false
 is_down phase.Up = false
 
--- whether what a peer feeds is taken: it is open, and its session is not over
+-- whether bytes that a peer feeds are taken: it is open, and its session is not over
 abbrev pub takes_feed : Option Connection → Bool
 takes_feed None = false
 takes_feed (Some x) = not (is_down x.session.phase)

@@ -1,4 +1,4 @@
--- What heeding keeps of a message, and what its paths are worth.
+-- What heeding keeps of a message, and that its paths can be joined to those of the element.
 use Rattle.std.specs.Prelude.{◌≡◌, ◌≢◌, ℕ, ◌*◌, List, [], map, Option, Some}
 use Rattle.std.specs.List.{AllByRecursion}
 use Rattle.pcep_subobjects.specs.Subobjects.{AreOctets}
@@ -15,7 +15,7 @@ abbrev pub replied : Message → List (ℕ × ℕ)
 replied (messages.PcRep replies) = map (λ (r : Reply). (r.flags, r.id)) replies
 replied _ = []
 
--- the same message but for what its replies answer
+-- the same message except for the answers of its replies
 pub record KeepsReplies (old new : Message) : Type 0 where
   pub kind : kind_of new ≡ kind_of old
   pub replies : replied new ≡ replied old

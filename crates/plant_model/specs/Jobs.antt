@@ -30,7 +30,7 @@ entries_of (Client may) source g = source ∷ []
 entries_of (Neighbour a) source g = map (λ e. e.node) (filter (λ e. same_as e.from_as a) g.entries)
 entries_of Parent source g = cond (has_addr source g.nodes) (insert_addr source (entry_nodes g.entries)) (entry_nodes g.entries)
 
--- what is asked of a domain for a request, in a topology of this number, with the branches that the next one told
+-- the ask of a domain for a request, in a topology of this number, with the branches that the next one told
 abbrev pub ask_of : {P : Type 0} → As → ℕ → Item P → List Branch → ℕ → Rows → Ask
 ask_of own number i down generation g = record {
   at = own;
@@ -60,7 +60,7 @@ pub record IsJoinOf (cap : ℕ) (target : Target) (border : List BorderRow) (dow
   pub all : (e : Addr) (c : ℕ) (exit : Addr) (head : Option Addr) → JoinsBy cap target border down e c exit head →
       (b : Best) × Contains best b × (b.entry ≡ e)
 
--- What is joined leads to a node that the next domain told.
+-- A way that is joined leads to a node that the next domain told.
 abbrev pub JoinsWhatWasTold : Type 0
 JoinsWhatWasTold = (cap : ℕ) (next : As) (border : List BorderRow) (down : List Down) (e : Addr) (c : ℕ) (exit head : Addr) → JoinsBy cap (Next next) border down e c exit (Some head) →
     (rest : ℕ) × Contains (beyond down) (record { node = head; cost = rest })

@@ -1,4 +1,4 @@
--- What is asked of the wire and of the settings.
+-- What the theorems require of the wire and of the settings.
 use Rattle.std.specs.Prelude.{◌≡◌, ◌≢◌, ◌≤◌, ◌<◌, ◌⊎◌, ◌^◌, ℕ, false, true, is_some, List, [], ◌∷◌, length, AllPairs, All, Contains, Option, Some, None, bit_and}
 use Rattle.std.specs.List.{AllByRecursion}
 use Rattle.plant_model.specs.Types.{As, Addr, ParentLink, Link, Asked, OpenBody, Reply, ErrorReport, Message, Request, Wanted, NetworkParts, ElementRow, PeerRow}
@@ -59,7 +59,7 @@ abbrev pub HasWords : Option (ℕ × ℕ) → Type 0
 HasWords None = Unit {0}
 HasWords (Some rp) = AreWords rp
 
--- what a request was found to be has numbers that can be said back
+-- a checked request has numbers that can be said back
 abbrev pub HasNumbers : Checked → Type 0
 HasNumbers (Admitted r) = AreWords (r.flags, r.id)
 HasNumbers (Wrong rp kind value) = HasWords rp × (kind < 256) × (value < 256)
@@ -69,7 +69,7 @@ abbrev pub HasTimers : Option OpenBody → Type 0
 HasTimers None = Unit {0}
 HasTimers (Some body) = (body.offer.keepalive < 256) × (body.offer.dead < 256)
 
--- what is written is read as what was meant, as octets
+-- the text of a message in written form is octets, and is read as that message
 pub record ReadsTexts (c : Codec) : Type 0 where
   pub reads : (m : Message) → IsWritten m → c.read (c.text m) ≡ Some m
   pub kinds : (m other : Message) → c.read (c.text m) ≡ Some other → kind_of m ≡ kind_of other
@@ -98,7 +98,7 @@ pub record AdmitsOnward (c : Codec) : Type 0 where
   pub refuses_upward : (w : Wanted) (id : ℕ) → ends_kind w.source w.target ≡ object_types.END_POINTS_IPV6 →
       c.check (asked_of id w w.target []) parent_as ≡ Wrong (Some (vspt_flag, id)) errors.KIND_NOT_SERVED.0 errors.KIND_NOT_SERVED.1
 
--- what came as octets has numbers that can be said back; a request to expand a key has the flag of one
+-- a message that came as octets has numbers that can be said back; a request to expand a key has the flag of one
 pub record SaysBack (c : Codec) : Type 0 where
   pub checks : (bytes : Bytes) (a : Asked) (own : As) → AreOctets bytes → c.read bytes ≡ Some (messages.PcReq (a ∷ [])) → HasNumbers (c.check a own)
   pub replies : (bytes : Bytes) (replies : List Reply) → AreOctets bytes → c.read bytes ≡ Some (messages.PcRep replies) → AllByRecursion (λ (r : Reply). AreWords (r.flags, r.id)) replies
@@ -111,7 +111,7 @@ pub record KeepsCosts (c : Codec) : Type 0 where
   pub words : (n : ℕ) → n ≤ COST_MAX → IsWord (c.word n)
   pub costs : (n : ℕ) → n ≤ COST_MAX → c.units (c.word n) ≡ Some n
 
--- What is written is read as what was meant, a request sent on asks for the same at the next element, and costs keep their
+-- Messages in written form are read as they were meant, a request sent on asks for the same at the next element, and costs keep their
 -- value.
 pub record IsCodec (c : Codec) : Type 0 where
   pub texts : ReadsTexts c
@@ -120,7 +120,7 @@ pub record IsCodec (c : Codec) : Type 0 where
   pub numbers : SaysBack c
   pub costs : KeepsCosts c
 
--- the parent stays with IPv4
+-- the parent serves IPv4 alone
 pub record IsIpv4Link (l : Link) : Type 0 where
   pub from : bits_of l.from ≡ 32
   pub to : bits_of l.to ≡ 32

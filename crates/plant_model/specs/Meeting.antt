@@ -1,4 +1,4 @@
--- That the functions of the model are what the contracts of its parts say: branches, requests and generations, and the parent's limit.
+-- The functions of the model agree with the contracts of its parts: branches, requests and generations, and the parent's limit.
 use Rattle.std.specs.Prelude.{◌≡◌, ◌↔◌, ℕ, ◌++◌, ◌==◌, List, Contains, count_by, Some, Result, Ok, Err, IsTrue}
 use Rattle.plant_model.specs.Types.{As, Hop, Asked, Request, Best, Branch}
 use Rattle.te_links.specs.Rows.{Rows}
@@ -24,7 +24,7 @@ LimitMeets = PARENT_PENDING_MAX ≡ pending_most
 abbrev pub BranchMeets : Type 0
 BranchMeets = (down : List Branch) (row : Best) (own : List Hop) (branch : Branch) → IsBranchOf down row own branch → branch.hops ≡ own ++ onward row.exit row.head down
 
--- what a call answered is what is checked, unless memory ran out
+-- the answer of a call is what is checked, unless memory ran out
 abbrev pub IsChecked : Result Request Refusal → Checked → Type 0
 IsChecked (Ok r) checked = checked ≡ Admitted r
 IsChecked (Err (refusals.Wire rp kind value)) checked = checked ≡ Wrong rp kind value

@@ -1,4 +1,4 @@
--- What an element heeds of what an outside peer tells: of a reply to a request that it sent there, what is kept by sifting.
+-- What an element heeds of an outside peer's messages: of a reply to a request that it sent there, what sifting keeps.
 use Rattle.std.specs.Prelude.{ℕ, ◌*◌, List, map, Option, Some, None}
 use Rattle.plant_model.specs.Types.{Peer, Message, Reply}
 use Rattle.pcep_messages.specs.declared.message.Message.TheVariants as messages

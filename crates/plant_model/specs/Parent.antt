@@ -101,7 +101,7 @@ abbrev pub waiting : Peer → ℕ → List AskingRow → Option AskingRow
 waiting p y [] = None
 waiting p y (h ∷ hs) = cond (among p h.1.item.waits y) (Some h) (waiting p y hs)
 
--- every id that waits, as a bound on how many are passed over
+-- every id that waits, as a bound on how many ids are skipped
 abbrev pub all_waits : List AskingRow → List Wait
 all_waits [] = []
 all_waits (h ∷ hs) = h.1.item.waits ++ all_waits hs

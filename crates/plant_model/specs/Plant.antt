@@ -136,12 +136,12 @@ module _ (c : Codec) (n : NetworkParts) where
   happened s (event.Drain i holder) = events.drain Pin Segment c n open_of i holder s
   happened s (event.Solve d k) = refused NoSuchJob s
 
-  -- What happens at an event: it is determined, but for the choice that a solve leaves.
+  -- What happens at an event. It is determined, except for the choice that a solve leaves.
   abbrev pub Happens : Plant → Event → Happened → Type 0
   Happens s (event.Solve d k) h = SolveHappens d k s h
   Happens s e h = h ≡ happened s e
 
-  -- whether an event may be refused for want of memory: not where it takes none
+  -- whether an event may be refused when out of memory: only where it takes memory
   abbrev pub needs_memory : Plant → Event → Bool
   needs_memory s (event.Shut i) = false
   needs_memory s (event.Feed i bytes) = events.takes_feed (s.accesses i).connection
@@ -149,7 +149,7 @@ module _ (c : Codec) (n : NetworkParts) where
   needs_memory s (event.Tick t) = false
   needs_memory s _ = true
 
-  -- A step: what happens, or want of memory, which changes nothing.
+  -- A step: what happens, or out of memory, which changes nothing.
   abbrev pub Steps : Plant → Event → Happened → Type 0
   Steps s e h = Happens s e h ⊎ ((needs_memory s e ≡ true) × (h ≡ refused NoMemory s))
 

@@ -1,4 +1,4 @@
--- Runs of sample networks, and what comes of them.
+-- Runs of sample networks, and their outcomes.
 use Rattle.std.specs.Prelude.{◌≡◌, ℕ, ◌+◌, Bool, nat_eq, true, false, List, [], ◌∷◌, ◌++◌, Option, Some, None, option_map}
 use Rattle.std.specs.Map.{lookup}
 use Rattle.plant_model.specs.Types.{As, Link, Hop, Message, Path, Best, NetworkParts, ElementRow, PeerRow, Class}

@@ -1,4 +1,4 @@
--- Sample runs over the wire of PCEP: events, solved jobs with what they find, and what outside peers are answered.
+-- Sample runs over the wire of PCEP: events, solved jobs with what they find, and the answers to outside peers.
 use Rattle.std.specs.Prelude.{ℕ, nat_eq, List, [], ◌∷◌, ◌++◌, Bool, false, Option, Some, None}
 use Rattle.std.specs.Map.{lookup}
 use Rattle.plant_model.specs.Types.{As, Tick, Addr, Peer, Outside, Inner, Message, Wanted, Held, Best, Branch, NetworkParts}
@@ -23,7 +23,7 @@ pub data Act : Type 0 where
   Solve : (at : As) → (number : ℕ) → List Best → (source_known target_known : Bool) → Act
   Join : (number : ℕ) → Option Found → Act
 
--- what a solve finds, but for its certificate
+-- the findings of a solve, without its certificate
 abbrev pub rows_with : As → List Best → Bool → Bool → Answer
 rows_with own best source_known target_known =
     record { best = best; source_known = source_known; target_known = target_known; certificate = record { own = own; labels = []; path = None } }
@@ -46,7 +46,7 @@ module _ (n : NetworkParts) where
   act (Solve d k best known known') s = solve d k (rows_with d best known known') s (lookup (nat_eq k) (s.elements d).pending.rows)
   act (Join k a) s = join k a s (lookup (nat_eq k) s.parent.pending.rows)
 
-  -- what comes of acts, one after the other, from the opening state on
+  -- the state after acts, one after the other, from the opening state on
   abbrev pub after_from : List Act → Plant → Plant
   after_from [] s = s
   after_from (a ∷ acts) s = after_from acts (act a s).state
@@ -54,7 +54,7 @@ module _ (n : NetworkParts) where
   unfoldable pub after : List Act → Plant
   after acts = after_from acts (opened wire n).state
 
--- what is said to outside peers
+-- the messages to outside peers
 abbrev pub said_to : Peer → Message → List (ℕ × Message)
 said_to (Outside i) m = (i, m) ∷ []
 said_to (Inner a) m = []
@@ -63,7 +63,7 @@ abbrev pub said_in : List Output → List (ℕ × Message)
 said_in [] = []
 said_in (o ∷ os) = said_to o.to o.message ++ said_in os
 
--- The answers of elements in deeds, the newest of which is first, in order. What a session says of its own is none.
+-- The answers of elements in deeds, in order; the list of deeds has the newest first. A session's own messages are no answers.
 abbrev pub answers_in : List (Deed Segment) → List (ℕ × Message)
 answers_in [] = []
 answers_in (Takes at from m os ∷ ds) = answers_in ds ++ said_in os
@@ -76,7 +76,7 @@ module _ (n : NetworkParts) where
   answers_from [] s = []
   answers_from (a ∷ acts) s = let h = act n a s in answers_in h.deeds ++ answers_from acts h.state
 
-  -- what outside peers are answered, by the numbers of the peers
+  -- the answers to outside peers, by the numbers of the peers
   unfoldable pub answers : List Act → List (ℕ × Message)
   answers acts = answers_from acts (opened wire n).state
 

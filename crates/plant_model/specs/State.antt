@@ -1,4 +1,4 @@
--- The state of a network, and what its transcript is made of.
+-- The state of a network, and the parts of its transcript.
 use Rattle.std.specs.Prelude.{ℕ, List, [], ◌∷◌, ◌++◌, Option}
 use Rattle.plant_model.specs.Types.{As, Peer, Message, Sent, Issued, State as Session}
 use Rattle.te_links.specs.Rows.{Rows}
@@ -54,7 +54,7 @@ pub data Deed (S : Type 0) : Type 0 where
   -- the bytes of an out queue are handed out
   Hands : (peer : ℕ) → Bytes → Deed S
 
--- what a deed puts into queues
+-- the messages that a deed puts into queues
 abbrev pub sent_by : Codec → As → List Output → List Sent
 sent_by c at [] = []
 sent_by c at (o ∷ os) = record { from = at; to = o.to; bytes = c.text o.message } ∷ sent_by c at os

@@ -162,8 +162,8 @@ notice_steps kinds =
 abbrev pub take_notice : {P : Type 0} {S : Type 0} → Peer → Notice → Element P S → Taken P S
 take_notice p n = each (λ rp. each (λ step. step p rp) (notice_steps n.kinds)) n.ids
 
--- What an error of the next tells the asker: of a request out of the profile, that; that it answers a reply, nothing; else
--- that the chain is not available.
+-- What the asker is told of an error of the next: for a request out of the profile, that; for an error that answers a reply, nothing;
+-- else that the chain is not available.
 abbrev pub error_answer : ℕ × ℕ → ℕ → ℕ → List Message
 error_answer e flags x =
     cond (has_pair errors.UNKNOWN_REQUEST.0 errors.UNKNOWN_REQUEST.1 (e ∷ [])) []
@@ -186,7 +186,7 @@ take_errors p ids (e ∷ es) = each (λ rp k. take_failure e k (waiting p rp.1 k
 abbrev pub take_report : {P : Type 0} {S : Type 0} → Peer → ErrorReport → Element P S → Taken P S
 take_report p r = take_errors p r.ids r.errors
 
--- What an element does with a message that its session passes. The show tells what stands behind a key, and the pin is that
+-- What an element does with a message that its session passes. The show gives the hops that a key stands for, and the pin is that
 -- of the current topology. The session takes the last four itself, so they are never asked.
 abbrev pub take : {P : Type 0} {S : Type 0} → Codec → (S → List Hop) → ElementSettings → P → Peer → Class → ℕ → Message → Element P S → Taken P S
 take c show e pin p class now (messages.PcReq asks) = each (take_asked c show e pin p class now) asks

@@ -1,4 +1,4 @@
--- The types of the crates below that statements about a network speak of, each by one name.
+-- The types of the crates below that statements about a network use, each under one name.
 -- An address, a metric, a message or a row of the settings is imported from here, wherever it is defined.
 pub use Rattle.dom_base.specs.declared.addr.Addr.{Addr}
 pub use Rattle.dom_base.specs.declared.border.BorderRow.{BorderRow}

@@ -1,5 +1,5 @@
-//! The laws of the model: it says what the contracts of its parts say, the wire is a codec, heeding keeps
-//! messages, and routes lead out of the network.
+//! Laws of the model: it agrees with the contracts of its parts, the wire is a codec, heeding changes the answers of
+//! replies alone, and routes lead out of the network.
 ghost use Rattle.plant_model.specs.Heeding.{HeedingKeeps, HeededJoins};
 ghost use Rattle.plant_model.specs.Jobs.{JoinsWhatWasTold};
 ghost use Rattle.plant_model.specs.Meeting.{BranchMeets, CheckMeets, LimitMeets, LiveMeets};
@@ -7,7 +7,7 @@ ghost use Rattle.plant_model.specs.RealWire.{WireIsCodec};
 ghost use Rattle.plant_model.specs.Onwards.{RoutesDiffer, RoutesLeave};
 ghost use Rattle.plant_model.specs.Routes.{EachHasRoute, NoRoutes, RoutesGoOut};
 
-/// The model's branches, refusals and live generations are what the contracts of those parts say, and the
+/// The model's branches, refusals and live generations agree with the contracts of those parts, and the
 /// constant of the parent's limit is the model's.
 pub fn model_meets_parts()
     ensures branches { BranchMeets }
@@ -21,7 +21,7 @@ pub fn joins_what_was_told()
     ensures { JoinsWhatWasTold }
 {}
 
-/// What is heeded of a message of an outside peer is the same but for the answers of its replies, whose paths
+/// Heeding changes nothing in a message of an outside peer but the answers of its replies; each path that is heeded
 /// can be joined to those of an element.
 pub fn heeding_keeps()
     ensures replies { HeedingKeeps }

@@ -1,7 +1,7 @@
-//! What comes of an event.
+//! The outcome of an event.
 use dom_base::Bytes;
 
-/// What came of an accepted event.
+/// The outcome of an accepted event.
 #[derive(Drop)]
 pub enum Outcome {
     Done,

@@ -1,4 +1,4 @@
-//! Sample runs, worked out: what comes of them shows that the definitions mean what they should.
+//! Sample runs, worked out. Their outcomes show that the definitions mean what they should.
 ghost use Rattle.plant_model.specs.SampleRuns.{ThreeDomains, BreakIsTold, LoadKeepsPin, KeysAreGuarded, IdsTellWhoSent, GoesOutside, NoPathTellsClients, ParentAnswers};
 
 /// Runs of a network of three domains, of one that asks a neighbour outside, and of one with a parent, over the wire

@@ -12,8 +12,9 @@ use Rattle.plant_network.specs.Histories.{HistoriesAreRuns, IsGivenIn, event_of,
 use Rattle.plant_network.specs.Turns.{IsAnswer, IsDone, left_by}
 use Rattle.plant_network.specs.Whole.{Whole}
 use Rattle.plant_network.specs.declared.acts.Act.{Act}
-use Rattle.plant_network.specs.declared.acts.Act.TheVariants.{Do, Look, Ready, Finish, Map}
+use Rattle.plant_network.specs.declared.acts.Act.TheVariants.{Do, Look, Ready, Next, Finish, Map}
 use Rattle.plant_network.specs.declared.acts.Acted.{Acted}
+use Rattle.plant_network.specs.declared.acts.Acted.TheVariants as acted
 use Rattle.plant_network.specs.declared.acts.Acted.TheVariants.{Did, Looked, Found, Committed, Mapped}
 
 -- a run goes on to the next state, by these events
@@ -31,6 +32,7 @@ module _ (w next : Whole) (older : List Entry) (run : Run wire w.network older w
   act_onward (Do e) (Did r) given answer = done_onward e r given answer
   act_onward (Look d k) (Looked r) given answer = same_onward answer.0
   act_onward (Ready k) (Found r) given answer = same_onward answer.0
+  act_onward (Next d behind) (acted.Next r) given answer = same_onward answer.0
   act_onward (Finish x) (Committed r) given answer = done_onward _ _ tt answer.0
   act_onward (Map d) (Mapped r) given answer = same_onward answer.0
   act_onward a r given answer = absurd answer

@@ -12,6 +12,7 @@ pub mod BlindSolves
 pub mod AnswerLemmas
 pub mod InboxLemmas
 pub mod CarryLemmas
+pub mod RoundLaws
 -- handed on from below
 pub use Rattle.network_events.proofs as network_events
 pub use Rattle.network_members.proofs as network_members

@@ -1,4 +1,4 @@
--- What is due in a network that goes on by itself, whatever a pin is and a key stands for.
+-- The work that is left in a network when no event comes from outside, for any kind of pins and keys.
 use Rattle.std.specs.Prelude.{◌≡◌, ℕ, Bool, true, false, not, List, [], All, Contains, Option, Some, None}
 use Rattle.network_events.specs.plant_model.Types.{As, NetworkParts}
 use Rattle.plant_text.specs.Settings.{adjacencies}

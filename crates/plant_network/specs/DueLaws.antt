@@ -1,4 +1,4 @@
--- What is due is possible, and what is done of it leaves less.
+-- Work that is due can be done, and less is left after it.
 use Rattle.std.specs.Prelude.{◌≡◌, ◌<◌, ℕ, true, false, List, [], length}
 use Rattle.network_events.specs.plant_model.Types.{As, Hop, NetworkParts}
 use Rattle.network_events.specs.plant_model.Blind.{is_accepted}

@@ -1,4 +1,4 @@
--- What a network holds, whatever a pin is and a key stands for: its members, and what is on its way between them.
+-- The contents of a network, for any kind of pins and keys: its members, and the traffic between them.
 use Rattle.network_events.specs.plant_model.Types.{As}
 use Rattle.network_events.specs.plant_model.Events.{Answered}
 use Rattle.network_events.specs.network_links.Carried.{Carried, flow_of}

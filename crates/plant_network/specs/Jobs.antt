@@ -1,4 +1,4 @@
--- What a network has to solve, and whose job was solved.
+-- The jobs that a network has to solve, and whose job was solved.
 use Rattle.std.specs.Prelude.{◌≡◌, ℕ, nat_eq, true, false, List, Option, Some, None, Result, Ok, Err}
 use Rattle.std.specs.Arc.{arc_value}
 use Rattle.std.specs.Map.{lookup}

@@ -6,6 +6,7 @@ pub mod Topologies
 pub mod Jobs
 pub mod Current
 pub mod Turns
+pub mod Rounds
 pub mod Histories
 pub mod Beginning
 pub mod Due

@@ -1,4 +1,4 @@
--- What a network with topologies holds.
+-- The contents of a network with topologies.
 use Rattle.network_events.specs.plant_model.declared.event.Event.{Event}
 use Rattle.network_events.specs.plant_model.Events.{Answered}
 use Rattle.network_events.specs.plant_model.Plant.{Pin, Segment, Steps, first_pin}

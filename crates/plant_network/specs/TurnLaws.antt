@@ -1,4 +1,4 @@
--- After a look at a job its solution is admitted as long as others take their turns: the job of that number stays, or ends.
+-- After a look at a job its solution stays admitted while others take their turns: the job of that number stays, or ends.
 use Rattle.std.proofs.Common.{◌≡◌, ◌∙◌, ℕ, false, List, [], ◌∷◌, Some, refl, ap, sym, subst}
 use Rattle.std.specs.Prelude.{Ok}
 use Rattle.std.specs.Arc.{arc_value}

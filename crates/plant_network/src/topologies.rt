@@ -8,6 +8,8 @@ ghost use Rattle.network_events.specs.plant_model.declared.event.Event.TheVarian
 ghost use Rattle.plant_laws.specs.Lasting.{HaveGiven, JobsLast};
 ghost use Rattle.network_members.specs.Answering.{IsWeighedWork};
 ghost use Rattle.network_events.specs.network_links.Carried.{flow_of};
+ghost use Rattle.network_events.specs.network_links.Rests.{rest_of};
+ghost use Rattle.network_events.specs.pce_common.Rounds.{IsNext, asked_jobs};
 ghost use Rattle.network_events.specs.network_links.Waiting.{WaitsNext};
 ghost use Rattle.plant_text.specs.Settings.{adjacencies};
 ghost use Rattle.plant_network.specs.Topologies.{whole};
@@ -20,6 +22,7 @@ use crate::events::act;
 use crate::network::Network;
 use dom_base::{As, NoMemory};
 use network_events::model::{Event, Outcome, Refused};
+use network_events::{AskedJob, Behind, Rest};
 use network_members::{Done, Refusal, Topologies, Work};
 use std::sync::Arc;
 use te_links::Topology;
@@ -46,6 +49,20 @@ impl Network<Topologies> {
         ensures can { IfSome result (λ job. CanSolve (whole self.now) job.0 job.1) }
     {
         self.members.ready(k)
+    }
+
+    /// The next job of a member, in the order of those who asked and then of the numbers; takes no memory.
+    pub fn next_job(&self, at: As, behind: Behind) -> Option<AskedJob>
+        ensures { IsNext behind (asked_jobs at (whole self.now).state) result }
+    {
+        self.members.next_job(at, behind)
+    }
+
+    /// What a take leaves to do for an outside peer; nothing where its connection is closed. It takes no memory.
+    pub fn rest(&self, peer: u32) -> Rest
+        ensures { result ≡ rest_of ((whole self.now).state.accesses peer).connection }
+    {
+        self.traffic.rest(peer)
     }
 
     /// The current topology of an element, and its number; None where there is no such element.

@@ -27,7 +27,7 @@ abbrev pub HasText : Option Files → Option (List ℕ) → List ℕ → Type 0
 HasText files None text = text ≡ []
 HasText files (Some name) text = HasFile files name text × (length text ≤ file_most)
 
--- The line of this number is played, and what is told of it is put at the end.
+-- The line of this number is played, and its transcript is appended.
 pub record PlaysCue (files : Option Files) (number : ℕ) (e : LineEvent) (answer : Answered) (old new : PlayedNetwork) (before after : Told) : Type 0 where
   pub file : List ℕ
   pub has : HasText files (file_name e) file
@@ -43,7 +43,7 @@ IsNoFile files name counts failed_at (stop.TooLarge file) = (file ≡ name) × I
 IsNoFile files name counts failed_at stop.NoMemory = Unit {0}
 IsNoFile files name counts failed_at why = ⊥
 
--- the file, its line and the fault, unless memory lacks
+-- the file, its line and the fault, unless memory ran out
 abbrev pub IsBadAt : List ℕ → ℕ → NetFault → Stop → Type 0
 IsBadAt name line fault (stop.BadNetwork file at other) = (file ≡ name) × (at ≡ line) × (other ≡ fault)
 IsBadAt name line fault stop.NoMemory = Unit {0}
@@ -61,7 +61,7 @@ IsFileStop files name e old new counts failed_at (stop.TooLarge file) = (file �
 IsFileStop files name e old new counts failed_at stop.NoMemory = Unit {0}
 IsFileStop files name e old new counts failed_at why = ⊥
 
--- Why a line stops: its file, where it names one; want of memory says nothing.
+-- Why a line stops: its file, where it names one; "out of memory" says nothing.
 abbrev pub IsCueStop : Option Files → Option (List ℕ) → LineEvent → PlayedNetwork → PlayedNetwork → ℕ × ℕ → List ℕ → Stop → Type 0
 IsCueStop files None e old new counts failed_at why = why ≡ stop.NoMemory
 IsCueStop files (Some name) e old new counts failed_at why = IsFileStop files name e old new counts failed_at why

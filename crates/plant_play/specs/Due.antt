@@ -1,4 +1,4 @@
--- What is due in a network with topologies that goes on by itself, and events that are due one after the other.
+-- The events that are due in a network with topologies when none comes from outside, one after the other.
 use Rattle.std.specs.Prelude.{◌≡◌, ℕ, true, List, [], ◌∷◌, Option, Some, None, slice_get}
 use Rattle.plant_network.specs.plant_model.Types.{As, NetworkParts}
 use Rattle.plant_network.specs.plant_model.declared.event.Event.{Event}

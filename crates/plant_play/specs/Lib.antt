@@ -10,7 +10,7 @@ pub mod WholeScripts
 pub mod LogFields
 pub mod Making
 pub mod PlayerFields
--- handed on from below
+-- re-exported from below
 pub use Rattle.network_files.specs as network_files
 pub use Rattle.plant_network.specs.plant_model
 pub use Rattle.transcript.specs as transcript

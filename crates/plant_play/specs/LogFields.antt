@@ -1,4 +1,4 @@
--- What is told of events, by the fields of a log.
+-- The transcript of events, by the fields of a log.
 use Rattle.plant_play.specs.declared.log.Log.TheInside.{Inside}
 use Rattle.plant_play.specs.Logs.{Told}
 

@@ -1,4 +1,4 @@
--- What is told of events: as text, or not at all where nobody reads it.
+-- The transcript of events: as text, or none where nobody reads it.
 use Rattle.std.specs.Prelude.{ℕ, Bool, cond, List, [], ◌++◌}
 
 -- whether it is kept, and the text so far

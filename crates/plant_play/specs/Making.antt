@@ -29,7 +29,7 @@ use Rattle.plant_play.specs.Logs.{Told, behind}
 use Rattle.plant_play.specs.Playing.{PlayedNetwork}
 use Rattle.plant_play.specs.Turns.{AreGiven, IsTurn, Turn, certificate_text, entries_of, tells_closed, turns_text, turn_text}
 
--- an event is done, and was not refused for want of memory
+-- an event is done, and memory did not run out
 pub record Makes (old : Whole) (e : Event) (answer : Answered) (new : Whole) : Type 0 where
   pub network : new.network ≡ old.network
   pub deeds : List PlantDeed
@@ -60,7 +60,7 @@ event_of (due.Take i) = event.Take i
 event_of (due.Carry a b) = event.Carry a b
 event_of (due.Solve d k) = event.Solve d k
 
--- ---- the job of which something is shown
+-- ---- the job to show
 
 abbrev pub shows_any : Modes → Bool
 shows_any m = m.certify || m.disclose
@@ -80,7 +80,7 @@ IsJobOf w e job = job ≡ None
 abbrev pub IsToShow : Modes → Whole → Event → Option Job → Type 0
 IsToShow m w e job = cond (shows_any m) (IsJobOf w e job) (job ≡ None)
 
--- ---- what is told of it
+-- ---- its transcript
 
 -- a peer is closed, by the rows of outside peers
 abbrev pub closed_among : List PeerRow → Peer → Bool
@@ -132,7 +132,7 @@ pub record Shown (line : ℕ) (m : Modes) (closed : Bool) (job : Job) (old new :
   pub is_certificate : cond m.certify (CertificateOf (Some job) certificate) (certificate ≡ None)
   pub tells : new ≡ behind old (rows_text line rows ++ certificate_text line certificate)
 
--- what an answer brought about is told: nothing where it is a refusal
+-- the messages of an event, and what is shown of its job, are told; nothing where it is refused
 pub record Brings (line : ℕ) (m : Modes) (w : Whole) (answer : Answered) (job : Option Job) (old new : Told) : Type 0 where
   pub rows : List BorderRow
   pub certificate : Option Certificate
@@ -163,7 +163,7 @@ pub record Refuses (old : Whole) (e : Event) (new : Whole) (before after : Told)
   pub makes : Makes old e (Err why) new
   pub silent : after ≡ before
 
--- Events are done, and their text is put behind what stands there.
+-- Events are done, and their text is appended.
 pub record Does (old : Whole) (Line : List Turn → List ℕ → Plant → Type 0) (new : Whole) (before after : Told) : Type 0 where
   pub network : new.network ≡ old.network
   pub turns : List Turn

@@ -1,4 +1,4 @@
--- A network that is played, by the fields of who plays it.
+-- A network that is played, by the fields of its player.
 use Rattle.plant_play.specs.declared.player.Player.TheInside.{Inside}
 use Rattle.plant_play.specs.Playing.{Scene}
 

@@ -1,4 +1,4 @@
--- What a line of a script does to a network, event by event, and what is told of it.
+-- What a line of a script does to a network, event by event, and its transcript.
 use Rattle.std.specs.Prelude.{◌≡◌, ℕ, true, false, cond, List, [], ◌∷◌, ◌++◌, Option, Some, None, option_map, Ok, Err}
 use Rattle.plant_network.specs.plant_model.Types.{As, LineEvent, NetworkParts}
 use Rattle.te_links.specs.Rows.{IsInOrder, IsTopology, Rows}
@@ -28,7 +28,7 @@ use Rattle.plant_play.specs.Due.{AreAllDue, IsDue, IsDueTake}
 use Rattle.plant_play.specs.Logs.{Told, behind}
 use Rattle.plant_play.specs.Turns.{AreGiven, IsTurn, Turn, brought_text, entries_of, turns_text}
 
--- a network and what is shown of it, as the value of who plays it
+-- a network and what is shown of it, as the value of its player
 pub record Scene : Type 0 where
   pub plant : Held
   pub modes : Modes
@@ -48,7 +48,7 @@ pub record IsNewNetwork (n : NetworkParts) (new : PlayedNetwork) : Type 0 where
   pub run : Run wire n [] new.state
   pub modes : new.modes ≡ record { certify = false; disclose = false }
 
--- ---- the kinds of lines: the answer of a line, its events, what is told, and the state that is left
+-- ---- the kinds of lines: the answer of a line, its events, its transcript, and the state that is left
 
 -- one event: its answer is told first
 pub record PlaysOne (number : ℕ) (old : PlayedNetwork) (e : Event) (answer : Answered) (turns : List Turn) (told : List ℕ) (end : Plant) : Type 0 where
@@ -84,7 +84,7 @@ pub record PlaysDue (number : ℕ) (old : PlayedNetwork) (Due : Plant → Option
   pub all : AreAllDue Due old.modes old.network old.state turns end
   pub tells : told ≡ turns_text number old.network.peers turns ++ answer_line number answer
 
--- the event of a peer that a line names; a name that the settings lack is no peer
+-- the event of a peer that a line names; a name that the settings do not have is no peer
 abbrev pub PlaysNamed : ℕ → PlayedNetwork → Option Event → Answered → List Turn → List ℕ → Plant → Type 0
 PlaysNamed number old None = PlaysNone number old (Err NoSuchPeer)
 PlaysNamed number old (Some e) = PlaysOne number old e
@@ -145,7 +145,7 @@ pub record Cue : Type 0 where
   pub event : LineEvent
   pub file : List ℕ
 
--- The line is played: its answer, its events, and what is told of them.
+-- The line is played: its answer, its events, and their transcript.
 pub record PlaysLine (old : PlayedNetwork) (c : Cue) (answer : Answered) (turns : List Turn) (told : List ℕ) (new : PlayedNetwork) : Type 0 where
   pub network : new.network ≡ old.network
   pub modes : new.modes ≡ modes_after c.event old.modes
@@ -162,7 +162,7 @@ pub record Played (c : Cue) (old : PlayedNetwork) (answer : Answered) (new : Pla
 abbrev pub cue : ℕ → LineEvent → List ℕ → Cue
 cue number e file = record { number = number; event = e; file = file }
 
--- ---- why a line is not played; want of memory says nothing
+-- ---- why a line is not played; "out of memory" says nothing
 
 -- The topology file is refused, and the network is as before.
 abbrev pub WhyNotLoaded : As → List ℕ → PlayedNetwork → PlayedNetwork → FileError → Type 0

@@ -1,4 +1,4 @@
--- An event of a line that is played: what the run has of it, what is shown of the job that it solved, and what is told.
+-- An event of a line that is played: what the run has of it, what is shown of the job that it solved, and its transcript.
 use Rattle.std.specs.Prelude.{◌≡◌, ℕ, Bool, false, not, cond, ◌&&◌, List, [], ◌∷◌, ◌++◌, Option, Some, None, Ok, Err}
 use Rattle.std.specs.List.{flat_map}
 use Rattle.plant_network.specs.plant_model.Types.{As, BorderRow, Seed, Ask, Sent, NetworkParts, PeerRow}
@@ -45,7 +45,7 @@ messages_of (Err why) deeds = []
 
 -- ---- what is shown
 
--- a network of which nothing is said
+-- a network whose last event said nothing
 abbrev pub unsaid : NetworkParts → Plant → Whole
 unsaid n s = record { network = n; state = s; said = [] }
 
@@ -96,7 +96,7 @@ pub record IsTurn (m : Modes) (n : NetworkParts) (s : Plant) (t : Turn) : Type 0
   pub happens : Happens wire n s t.entry.event (record { answer = t.entry.answer; state = t.after; deeds = t.entry.deeds })
   pub shows : ShowsTurn m n s t
 
--- ---- what is told
+-- ---- the transcript
 
 -- the line of an event that is not the line's own
 abbrev pub event_line : ℕ → List PeerRow → Event → List ℕ

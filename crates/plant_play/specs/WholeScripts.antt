@@ -57,7 +57,7 @@ IsLineStop files n l old new counts failed_at (stop.TooLarge name) =
     ((name ≡ input_name) × (line_most < length l.text)) ⊎ StopsAtFile files n l old new counts failed_at (stop.TooLarge name)
 IsLineStop files n l old new counts failed_at why = StopsAtFile files n l old new counts failed_at why
 
--- What a script met: the files where they are told; what was written before it and after; how often the store and the output had
+-- What a script met: the files where they are known; what was written before it and after; how often the store and the output had
 -- failed before and after; and the name at which the store last failed.
 pub record Around : Type 0 where
   pub files : Option Files
@@ -72,7 +72,7 @@ abbrev pub around : Option Files → Option (List ℕ) × Option (List ℕ) → 
 around files written store_faults output_faults failed_at =
     record { files = files; before = written.0; after = written.1; store_faults = store_faults; output_faults = output_faults; failed_at = failed_at }
 
--- The lines of a script before the others are played, and what is told of them is written so.
+-- The lines of a script before the others are played, and their transcript is written so.
 pub record Reached (files : Option Files) (n : NetworkParts) (script : List ℕ) (Wrote : List ℕ → Type 0) (others : List NumberedLine) (end : PlayedNetwork) : Type 0 where
   pub done : List NumberedLine
   pub parts : told_lines script ≡ done ++ others
@@ -81,23 +81,23 @@ pub record Reached (files : Option Files) (n : NetworkParts) (script : List ℕ)
   pub playing : Playing files n done turns told end
   pub wrote : Wrote told
 
--- all that is told is written
+-- the whole transcript is written
 abbrev pub WroteAll : Around → List ℕ → Type 0
 WroteAll a told = Appends a.before a.after told
 
--- a first part of what is told is written
+-- a first part of the transcript is written
 abbrev pub WroteSome : Around → List ℕ → Type 0
 WroteSome a told = AppendsSome a.before a.after told
 
--- all lines are played, and all that is told of them is written
+-- all lines are played, and their whole transcript is written
 abbrev pub IsWhole : Around → NetworkParts → List ℕ → Type 0
 IsWhole a n script = (end : PlayedNetwork) × Reached a.files n script (WroteAll a) [] end
 
--- some first lines are played, and a first part of what is told of them is written
+-- some first lines are played, and a first part of their transcript is written
 abbrev pub IsCut : Around → NetworkParts → List ℕ → Type 0
 IsCut a n script = (others : List NumberedLine) × ((end : PlayedNetwork) × Reached a.files n script (WroteSome a) others end)
 
--- The lines before one are played, all that is told of them is written, and that line is why the script stops.
+-- The lines before one are played, their whole transcript is written, and that line is why the script stops.
 pub record StopsAt (a : Around) (n : NetworkParts) (script : List ℕ) (why : Stop) : Type 0 where
   pub line : NumberedLine
   pub others : List NumberedLine
@@ -106,7 +106,7 @@ pub record StopsAt (a : Around) (n : NetworkParts) (script : List ℕ) (why : St
   pub new : PlayedNetwork
   pub stops : IsLineStop a.files n line end new a.store_faults a.failed_at why
 
--- Why a script stops before its end; want of memory says nothing.
+-- Why a script stops before its end; "out of memory" says nothing.
 abbrev pub ScriptStops : Around → NetworkParts → List ℕ → Stop → Type 0
 ScriptStops a n script stop.WriteFault = Rose a.output_faults.0 a.output_faults.1 × IsCut a n script
 ScriptStops a n script stop.NoMemory = IsCut a n script
@@ -126,7 +126,7 @@ IsNoEvent n l (stop.TooLarge name) = (name ≡ input_name) × (line_most < lengt
 IsNoEvent n l stop.NoMemory = Unit {0}
 IsNoEvent n l why = ⊥
 
--- The line is played, and what is told of it is written so.
+-- The line is played, and its transcript is written so.
 pub record LinePlays (files : Option Files) (n : NetworkParts) (l : NumberedLine) (old new : PlayedNetwork) (Wrote : List ℕ → Type 0) : Type 0 where
   pub cue : Cue
   pub is_cue : IsCue files n l cue
@@ -136,7 +136,7 @@ pub record LinePlays (files : Option Files) (n : NetworkParts) (l : NumberedLine
   pub plays : PlaysLine old cue answer turns told new
   pub wrote : Wrote told
 
--- Why a line stops the script; nothing is written, but where it is the output that failed.
+-- Why a line stops the script. Nothing is written then, except where the output failed.
 abbrev pub LineStops : Around → NetworkParts → NumberedLine → PlayedNetwork → PlayedNetwork → Stop → Type 0
 LineStops a n l old new stop.WriteFault = Rose a.output_faults.0 a.output_faults.1 × LinePlays a.files n l old new (WroteSome a)
 LineStops a n l old new stop.NoMemory = Keeps a.before a.after

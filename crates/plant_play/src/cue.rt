@@ -114,9 +114,9 @@ fn play_alone(
     }
 }
 
-/// Plays a line of this number, over the text of the file that it names, and tells it at the end of a log; gives the
+/// Plays a line of this number, with the text of the file that it names, and appends its transcript to a log; returns the
 /// answer of the line, and the log. After an error nothing is told, and the log is gone. A file that is refused leaves
-/// the network as it was; after want of memory what the line did up to there stays done.
+/// the network as it was; after `NoMemory` what the line did up to there stays done.
 pub fn play_cue<S: Store>(
     alloc: Global,
     store: &mut S,

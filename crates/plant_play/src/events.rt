@@ -1,4 +1,4 @@
-//! One event of a line, done and told.
+//! One event of a line, done and written to the transcript.
 ghost use Rattle.std.specs.Prelude.{◌≡◌, IfErr, Err, IfOk, IfSome, MatchBool, OnOk, Some};
 ghost use Rattle.network_files.specs.Reading.{IsWant};
 ghost use Rattle.plant_text.specs.Settings.{peer_row};
@@ -22,10 +22,10 @@ use plant_network::{Done, Plant};
 use plant_text::PeerRow;
 use std::alloc::Global;
 
-/// What came of an event: an outcome, or why it was refused.
+/// The answer to an event: an outcome, or why it was refused.
 pub type Answer = Result<Outcome, Refused>;
 
-/// An event that is due in a network that goes on by itself.
+/// An event that is due in a network when none comes from outside.
 #[derive(Clone, Copy)]
 pub enum Due {
     Take(u32),
@@ -52,7 +52,7 @@ fn lacks_memory(answer: &Answer) -> bool
     }
 }
 
-/// Does an event. Want of memory is no answer of the network.
+/// Does an event. Running out of memory is an error, and no answer of the network.
 pub(crate) fn done(plant: &mut Plant, event: Event) -> Result<Answer, PlayError>
     requires { IsOwnLoad event }
     ensures refused { IfErr result IsWant }
@@ -66,7 +66,7 @@ pub(crate) fn done(plant: &mut Plant, event: Event) -> Result<Answer, PlayError>
     }
 }
 
-// Answers a job that was solved, which is let go where it is refused.
+// Answers a solved job. A refused job is dropped.
 fn answered(plant: &mut Plant, solved: Done) -> Answer
     requires { IsOwn (whole plant.old) solved }
     ensures { Stepped (whole plant.old) (Solve (solved_at solved) (solved_number solved)) result (whole plant.new) }
@@ -77,7 +77,7 @@ fn answered(plant: &mut Plant, solved: Done) -> Answer
     }
 }
 
-// The same, where want of memory is no answer.
+// The same, where running out of memory is an error.
 fn committed(plant: &mut Plant, solved: Done) -> Result<Answer, PlayError>
     requires { IsOwn (whole plant.old) solved }
     ensures refused { IfErr result IsWant }
@@ -91,7 +91,7 @@ fn committed(plant: &mut Plant, solved: Done) -> Result<Answer, PlayError>
     }
 }
 
-// The event that solves a job of which something is shown: the job is solved once, and its labels are told beside.
+// The event that solves a job to show: the job is solved once, and its labels are told in a second log.
 fn solve_shown(
     alloc: Global,
     plant: &mut Plant,
@@ -111,7 +111,7 @@ fn solve_shown(
     committed(plant, Done::Domain(solved))
 }
 
-// Does an event; the labels of a job that is to be shown are told beside.
+// Does an event; the labels of a job to show are told in a second log.
 fn make(
     alloc: Global,
     plant: &mut Plant,
@@ -133,7 +133,7 @@ fn make(
     }
 }
 
-/// The event of a line: its answer is told first. Gives that.
+/// The event of a line: its answer is told first, and returned.
 pub(crate) fn play_event(
     alloc: Global,
     plant: &mut Plant,
@@ -175,7 +175,7 @@ fn write_due(line: u32, peers: &[PeerRow], due: Due, into: &mut Log) -> Result<(
     }
 }
 
-/// An event that is not the line's own: it is told by a line of its own where it is not refused. Whether it was
+/// An event that is not the line's own: it is told by a line of its own where it is not refused. Returns whether it was
 /// accepted.
 pub(crate) fn make_due(
     alloc: Global,

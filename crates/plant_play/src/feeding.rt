@@ -1,4 +1,4 @@
-//! Bytes that a peer feeds, and the messages that are taken of them.
+//! Bytes that a peer feeds, and the messages that are taken from them.
 ghost use Rattle.std.specs.Prelude.{◌≡◌, IfErr, IfOk, OnOk};
 ghost use Rattle.network_files.specs.Reading.{IsWant};
 ghost use Rattle.plant_network.specs.Topologies.{whole};
@@ -34,7 +34,7 @@ fn take_all(
     Ok(())
 }
 
-/// Feeds bytes, and takes what is in the inbox then; if the feed is refused, its answer is all.
+/// Feeds bytes, and takes what is then in the inbox. Where the feed is refused, nothing is told but its answer.
 pub(crate) fn feed(
     alloc: Global,
     plant: &mut Plant,

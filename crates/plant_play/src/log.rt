@@ -1,4 +1,4 @@
-//! What is told of events: as text, or not at all where nobody reads it.
+//! The transcript of events: as text, or none where nobody reads it.
 ghost use Rattle.std.specs.Prelude.{◌≡◌, true, false, OnOk};
 ghost use Rattle.transcript.specs.Lines.{answer_line, carry_line, certified_text, rows_text, sents_text, solve_line, take_line};
 ghost use Rattle.plant_play.specs.Logs.{behind, untold};
@@ -11,8 +11,8 @@ use plant_text::PeerRow;
 use std::alloc::Global;
 use std::marker::Model;
 
-/// The transcript of events. Of an unseen one no text is made: who plays lines hands one in where nobody reads what is
-/// told of them.
+/// The transcript of events. An unseen log makes no text: a caller that plays lines passes one where nobody reads the
+/// transcript.
 pub struct Log {
     is_kept: bool,
     text: Vec<u8>,
@@ -39,7 +39,7 @@ impl Model for Log {
 }
 
 impl Log {
-    /// Nothing is told yet; what will be is kept.
+    /// An empty log that will keep its text.
     pub fn kept(alloc: Global) -> Log
         ensures { result ≡ untold true }
     {
@@ -49,7 +49,7 @@ impl Log {
         }
     }
 
-    /// Nothing is told, and nothing will be kept.
+    /// A log that keeps no text.
     pub fn unseen(alloc: Global) -> Log
         ensures { result ≡ untold false }
     {
@@ -59,7 +59,7 @@ impl Log {
         }
     }
 
-    // Nothing is told yet; what will be is kept where it is here.
+    // An empty log, which will keep its text where this log does.
     pub(crate) fn beside(&self, alloc: Global) -> Log
         ensures { result ≡ untold self.now.is_kept }
     {
@@ -69,7 +69,7 @@ impl Log {
         }
     }
 
-    /// What was told and kept.
+    /// The text that was told and kept.
     pub fn text(&self) -> &[u8]
         ensures { result.now ≡ self.now.text }
     {
@@ -77,7 +77,7 @@ impl Log {
     }
 }
 
-// Tells what another log has told.
+// Appends what another log has told.
 pub(crate) fn write_log(log: &Log, into: &mut Log) -> Result<(), NoMemory>
     ensures { OnOk result (into.new ≡ behind into.old log.now.text) }
 {

@@ -1,4 +1,4 @@
-//! Who plays the lines of a script.
+//! The player of the lines of a script.
 ghost use Rattle.std.specs.Prelude.{◌≡◌, ◌≤◌, length, IfErr, IfOk};
 ghost use Rattle.te_deltas.specs.ChangeText.{change_file_most};
 ghost use Rattle.plant_play.specs.Playing.{IsNewNetwork, IsWhyNot, Played, cue, played_network};
@@ -64,18 +64,18 @@ impl Player {
         self.plant.parts()
     }
 
-    /// The settings as the value that they came in.
+    /// The settings, as the value that was passed in.
     pub fn network(&self) -> &Network
         ensures { result.now ≡ (played_network self.now).network }
     {
         self.plant.network()
     }
 
-    /// Plays a line of this number, and tells it at the end of a log; gives the answer of the line, and the log. `file`
+    /// Plays a line of this number, and appends its transcript to a log; returns the answer of the line, and the log. `file`
     /// is the text of the file that the line names. After an error nothing is told, and the log is gone; where it is no
     /// fault of the file, what the line did up to there stays done. A file that is refused leaves the network as it was.
-    /// NoMemory is also told where there is no room to count more than 2^64 - 1 events of one line; where 2^47 messages
-    /// stand in the queues between elements at most, and no id comes round, fewer follow one another.
+    /// `NoMemory` is also answered where there is no room to count more than 2^64 - 1 events of one line; where 2^47 messages
+    /// stand in the queues between elements at most, and no id wraps around, fewer follow one another.
     pub fn play(
         &mut self,
         line: u32,

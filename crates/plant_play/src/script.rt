@@ -17,7 +17,7 @@ use transcript::{LINE_MAX, Stop};
 /// How many bytes a script may have.
 pub const SCRIPT_MAX: usize = 67_108_864;
 
-// The event of a line that tells something.
+// The event of a line that is neither blank nor a comment.
 fn event_of(alloc: Global, network: &Network, number: u32, text: &[u8]) -> Result<LineEvent, Stop>
     requires told { is_skipped text.now ≡ false }
     ensures event { IfOk result (HasEvent network.now (numbered number text.now)) }
@@ -34,7 +34,7 @@ fn event_of(alloc: Global, network: &Network, number: u32, text: &[u8]) -> Resul
     }
 }
 
-// Plays a line, and writes what is told of it.
+// Plays a line, and writes its transcript.
 fn play_line<S: Store, K: Sink>(
     alloc: Global,
     store: &mut S,
@@ -80,7 +80,7 @@ fn play_lines<S: Store, K: Sink>(
     Ok(())
 }
 
-/// Plays the lines of a script one after the other on a new network of these settings, and writes what is told of each
+/// Plays the lines of a script one after the other on a new network of these settings, and writes the transcript of each
 /// before the next is read: its number, its answer, and what else it brought about. Blank lines and lines that begin
 /// with `#` are no events, but they count. A line reads the file that it names when its turn comes. Of the lines
 /// before one that stops the script all is written.

@@ -1,4 +1,4 @@
-//! What is told of an event behind its answer: its messages, and what is shown of the job that it solved.
+//! The transcript of an event behind its answer: its messages, and what is shown of the job that it solved.
 ghost use Rattle.std.specs.Prelude.{◌≡◌, ◌&&◌, ◌||◌, cond, None, Some, IfOk, IfSome, OnOk};
 ghost use Rattle.path_certificate.specs.declared.certificate.Certificate.{Certificate as Certified};
 ghost use Rattle.dom_base.specs.declared.border.BorderRow.{BorderRow};
@@ -128,7 +128,7 @@ pub(crate) fn write_labels_if(
     }
 }
 
-// What is shown of a job that was solved: its border table, and the labels that were told beside.
+// What is shown of a job that was solved: its border table, and the labels that were told in a second log.
 fn write_shown(
     alloc: Global,
     line: u32,
@@ -147,7 +147,7 @@ fn write_shown(
 }
 
 /// What an accepted event brought about: its messages, and what is shown of the job that it solved, whose labels were
-/// told beside. A refused one brings about nothing.
+/// told in a second log. A refused one brings about nothing.
 pub(crate) fn write_brought(
     alloc: Global,
     line: u32,

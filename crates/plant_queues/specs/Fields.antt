@@ -1,4 +1,4 @@
--- What a queue is, by its fields.
+-- A queue as contracts see it, by its fields.
 use Rattle.std.specs.Prelude.{◌≡◌, ◌≤◌, ℕ, ◌+◌, ◌-◌, ◌/◌, List, length, drop, sum, vec_len}
 use Rattle.std.specs.Vec.{vec_capacity}
 use Rattle.std.specs.VecDeque.{deque_capacity, deque_len}

@@ -30,7 +30,7 @@ abbrev pub total : {M : Type 0} → (M → ℕ) → List M → ℕ
 total size [] = 0
 total size (message ∷ messages) = size message + total size messages
 
--- what left is room again
+-- the room of messages that left is free again
 pub record IsRoomAgain {M : Type 0} (size : M → ℕ) (old new : Queued M) : Type 0 where
   pub messages : old.spare.messages + length old.kept ≤ new.spare.messages + length new.kept
   pub bytes : old.spare.bytes + total size old.kept ≤ new.spare.bytes + total size new.kept

@@ -1,4 +1,4 @@
--- What the messages of a step are, by their fields.
+-- The messages of a step as contracts see them, by their fields.
 use Rattle.std.specs.Prelude.{◌-◌, length, vec_len}
 use Rattle.std.specs.Vec.{vec_capacity}
 use Rattle.plant_queues.specs.Messages.{Queued}

@@ -1,4 +1,4 @@
-//! Bytes in one memory, of which the first may have left.
+//! Bytes in one buffer; the first of them may have left.
 ghost use Rattle.std.specs.Prelude.{◌≡◌, ◌≤◌, ◌+◌, ◌*◌, ◌/◌, ◌-◌, ◌++◌, drop, length, vec_len, IfSome};
 ghost use Rattle.std.specs.Vec.{vec_capacity};
 
@@ -43,7 +43,7 @@ pub(crate) fn settle(bytes: &mut Vec<u8>, head: usize, count: usize) -> usize
     0
 }
 
-/// The memory in which so many bytes and so many more are one half, unless there is no such number.
+/// The capacity of which so many bytes and so many more are one half, unless there is no such number.
 pub(crate) fn wanted(used: usize, more: usize) -> Option<usize>
     ensures { IfSome result (λ n. n ≡ 2 * (used + more)) }
 {

@@ -1,4 +1,4 @@
-//! Queues of messages, and the messages of a step, that take no memory but by their `reserve`.
+//! Queues of messages, and the messages of a step. Only their `reserve` takes memory.
 #![tactic(auto)]
 
 mod buffer;

@@ -57,7 +57,7 @@ impl Said {
         }
     }
 
-    /// Makes room for so many more messages, of so many bytes together. After a refusal the messages
+    /// Makes room for so many more messages, of so many bytes together. On `NoMemory` the messages
     /// are as before, and the room is no smaller.
     pub fn reserve(&mut self, messages: usize, bytes: usize) -> Result<(), NoMemory>
         ensures same { self.new.kept ≡ self.old.kept }

@@ -1,4 +1,4 @@
--- What a reader of lines answers beside what the line says. Memory may always be wanting.
+-- The answers of a reader of lines: what the line says, or at any time "out of memory".
 use Rattle.std.specs.Prelude.{◌≡◌, Option, Some, None, Result, Ok, Err}
 use Rattle.plant_text.specs.declared.line.LineError.{LineError}
 use Rattle.plant_text.specs.declared.line.LineError.TheVariants.{Outside, NoMemory}

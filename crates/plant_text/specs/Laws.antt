@@ -1,4 +1,4 @@
--- What the rules of settings are worth.
+-- What the rules of settings ensure.
 use Rattle.std.specs.Prelude.{◌≡◌, ◌≢◌, ◌<◌, ◌≤◌, false, true, length, is_some, All, AllPairs, IfSome}
 use Rattle.dom_base.specs.declared.names.As.{As}
 use Rattle.dom_base.specs.declared.border.ParentLink.{ParentLink}

@@ -1,4 +1,4 @@
--- How much the settings of a network may have, as numbers: those that the constants of the code are.
+-- How much the settings of a network may have, as numbers. The constants in the code are proved to be these numbers.
 use Rattle.std.specs.Prelude.{◌≡◌}
 use Rattle.plant_text.specs.declared.limits.TheConstants.{ELEMENTS_MAX, LINKS_MAX, PEERS_MAX, DENY_MAX, PARENT_LINKS_MAX, KEY_LIFE_MAX, NAME_MAX, WORKERS_MAX, ROW_ENTRIES_MAX}
 

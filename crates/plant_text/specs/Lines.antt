@@ -125,7 +125,7 @@ event_in peers words = first verb_in words >>= λ v. behind peers v.0 v.1
 abbrev pub line_in : NetworkParts → List ℕ → Option (Option LineEvent)
 line_in n line = if is_skipped line then Some None else (words_of line >>= event_in n.peers >>= λ e. Some (Some e))
 
--- the octets that come from a peer by an event; none but by these two
+-- the octets that come from a peer by an event; only these two events bring any
 abbrev pub octets_of : LineEvent → List ℕ
 octets_of (event.Feed peer bytes) = bytes
 octets_of (event.Receive peer bytes) = bytes

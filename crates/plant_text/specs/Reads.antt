@@ -16,7 +16,7 @@ use Rattle.plant_text.specs.SettingsText.{sheet_in}
 abbrev pub document : List ℕ → Option Members
 document bytes = if is_utf8 bytes then parse_document bytes else None
 
--- why a text is no document; want of memory says nothing of it
+-- why a text is no document; "out of memory" says nothing about it
 abbrev pub IsNoDocument : List ℕ → NetError → Type 0
 IsNoDocument bytes (Fault fault) = (document bytes ≡ None) × (fault ≡ NotToml)
 IsNoDocument bytes NoMemory = Unit {0}
@@ -28,7 +28,7 @@ pub record Reads (bytes : List ℕ) (n : NetworkParts) : Type 0 where
   pub obeyed : AreObeyed (rules (sheet_in root))
   pub rows : n ≡ (sheet_in root).parts
 
--- the text is a document, and this is told of the first rule that it breaks
+-- the text is a document, and this fault reports the first rule that it breaks
 pub record BreaksRule (bytes : List ℕ) (fault : NetFault) : Type 0 where
   pub root : Members
   pub reads : document bytes ≡ Some root

@@ -25,11 +25,11 @@ use Rattle.plant_text.specs.declared.sheet.Sheet.{Sheet}
 use Rattle.plant_text.specs.Names.{same_as, same_link, parent_as}
 use Rattle.plant_text.specs.Settings.{is_element}
 
--- tests in their order, each with what is told where it holds
+-- tests in their order, each with what is reported where it holds
 abbrev pub Rules : Type 0 → Type 0
 Rules X = List (Bool × X)
 
--- what a breach is called: the table, and the place of its row
+-- the fault that reports a breach: the table, and the place of its row
 abbrev pub told : List ℕ → ℕ → Breach → NetFault
 told table i breach.TooMany = fault.TooMany table
 told table i breach.Shape = fault.Shape table i
@@ -46,7 +46,7 @@ rows_from table limit rules i before [] = []
 rows_from table limit rules i before (row ∷ rows) =
     at_row table i ((nat_le limit i, breach.TooMany) ∷ rules before row) ++ rows_from table limit rules (i + 1) (before ++ row ∷ []) rows
 
--- the row behind those of a table, where it is out of form
+-- the row behind those of a table, where it is malformed
 abbrev pub cut_rules : List ℕ → ℕ → ℕ → Option Breach → Rules NetFault
 cut_rules table limit i None = []
 cut_rules table limit i (Some wrong) = at_row table i ((nat_le limit i, breach.TooMany) ∷ (true, wrong) ∷ [])
@@ -91,7 +91,7 @@ is_link l = (((is_v4 l.from && is_v4 l.to) && (is_v4 l.near && is_v4 l.far)) && 
 
 -- ---- the rules of a row, behind the rows before it
 
--- there is a parent, in form or not
+-- there is a parent, malformed or not
 abbrev pub has_parent : Sheet → Bool
 has_parent s = is_some s.parts.parent || s.cuts.parent
 
@@ -214,7 +214,7 @@ rules s = table_rules s ++ family_rules s ++ top_rules s
 
 -- ---- settings without a text
 
--- nothing is out of form
+-- nothing is malformed
 abbrev pub no_cuts : Cuts
 no_cuts = record { elements = None; links = None; peers = None; deny = None; parent = false; no_parent = false; parent_links = None; workers = false; watch = false }
 

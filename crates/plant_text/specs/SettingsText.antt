@@ -1,4 +1,4 @@
--- What a TOML document says of a network: the rows of its tables, up to the first that is out of form.
+-- What a TOML document says of a network: the rows of its tables, up to the first malformed row.
 use Rattle.std.specs.Prelude.{ℕ, pos, ◌+◌, ◌-◌, ◌^◌, ◌&&◌, Bool, true, false, not, nat_le, nat_lt, is_some, is_none, unwrap_or, codes, find, List, [], ◌∷◌, Option, Some, None, if◌then◌else◌}
 use Rattle.std.specs.List.{list_all, list_any}
 use Rattle.std.specs.Str.{bytes_eq}
@@ -125,7 +125,7 @@ comes_of (Some d) (Some e) = None
 abbrev pub comes_in : Members → Option Comes
 comes_in ms = comes_of (get_member (codes "from") ms) (get_member (codes "connect") ms)
 
--- No key says anything of what stands behind `down`.
+-- No key sets the fields behind `down`.
 unfoldable pub peer_of : Members → Option PeerRow
 peer_of ms = do
   name ← needed as_str (codes "name") ms
@@ -179,7 +179,7 @@ parent_link_of ms = do
 
 -- ---- tables
 
--- a table of a form, and how one that is out of form is told
+-- the form of a table, and the fault of a table that is malformed
 pub record Form (R : Type 0) : Type 0 where
   pub is_key : List ℕ → Bool
   pub read : Members → Option R
@@ -228,7 +228,7 @@ abbrev pub rows_in : {R : Type 0} → Form R → Items → Found R
 rows_in form no_items = nothing
 rows_in form (item d ds) = with_row (row_in form d) (wrong_in form d) (rows_in form ds)
 
--- what stands at the name of a table of rows
+-- the rows at the name of a table
 abbrev pub rows_of : {R : Type 0} → Form R → Option Data → Found R
 rows_of form None = nothing
 rows_of form (Some (array ds)) = rows_in form ds
@@ -256,7 +256,7 @@ top_key = is_one_of (codes "element" ∷ codes "link" ∷ codes "peer" ∷ codes
 abbrev pub workers_of : Members → Option ℕ
 workers_of root = optional (number (2 ^ 32 - 1)) 2 (codes "workers") root
 
--- the port of watchers, where it is in form
+-- the port of watchers, where it is well-formed
 abbrev pub watch_of : Option Data → Option ℕ
 watch_of port = port >>= number (2 ^ 16 - 1)
 

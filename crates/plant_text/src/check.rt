@@ -10,7 +10,7 @@ use crate::sheet::Sheet;
 use dom_base::{List, Text};
 use std::alloc::Global;
 
-// What a breach is called.
+// The fault that reports a breach.
 fn refusal(alloc: Global, name: &str, index: u32, breach: Breach) -> NetError
     ensures { IsTold (Some (told name.now index breach)) result }
 {
@@ -26,7 +26,7 @@ fn refusal(alloc: Global, name: &str, index: u32, breach: Breach) -> NetError
     })
 }
 
-// What the rows of a table break first.
+// The first rule that the rows of a table break.
 fn check_rows<R: Row>(
     alloc: Global,
     name: &str,
@@ -47,7 +47,7 @@ fn check_rows<R: Row>(
     Ok(())
 }
 
-// What is wrong with the row behind those of a table.
+// The rule that the row behind those of a table breaks.
 fn check_cut(
     alloc: Global,
     name: &str,
@@ -66,7 +66,7 @@ fn check_cut(
     Err(refusal(alloc, name, count as u32, breach))
 }
 
-// What a table breaks first.
+// The first rule that a table breaks.
 fn check_table<R: Row>(
     alloc: Global,
     name: &str,

@@ -63,14 +63,14 @@ fn id_of(value: Option<&Value>) -> Option<Addr>
     }
 }
 
-// Whether the table of the parent is out of form.
+// Whether the table of the parent is malformed.
 fn is_wrong_parent(value: Option<&Value>) -> bool
     ensures { result ≡ (is_table (option_map (λ v. view v.now) value.entry) && is_none (parent_id (option_map (λ v. view v.now) value.entry))) }
 {
     is_a_table(value) && id_of(value).is_none()
 }
 
-// Whether something else than a table is there.
+// Whether there is a value that is no table.
 fn is_no_table(value: Option<&Value>) -> bool
     ensures { result ≡ (is_some (option_map (λ v. view v.now) value.entry) && not (is_table (option_map (λ v. view v.now) value.entry))) }
 {
@@ -122,7 +122,7 @@ fn other_name(alloc: Global, root: &Table) -> Result<Option<Text>, NoMemory>
     }
 }
 
-// Whether the port of watchers is out of form.
+// Whether the port of watchers is malformed.
 fn is_wrong_watch(root: &Table) -> bool
     ensures { result ≡ (is_some (get_member (codes "watch") (table_view root.now)) && is_none (watch_of (get_member (codes "watch") (table_view root.now)))) }
 {
@@ -153,7 +153,7 @@ fn tables_of(alloc: Global, root: &Table) -> Result<Tables, NoMemory>
     })
 }
 
-// What a document says.
+// The sheet of a document.
 fn sheet_of(alloc: Global, root: &Table) -> Result<Sheet, NoMemory>
     ensures { IfOk result (λ sheet. sheet ≡ sheet_in (table_view root.now)) }
 {

@@ -1,4 +1,4 @@
-//! What is wrong with the files of a network.
+//! Faults in the files of a network.
 ghost use Rattle.std.specs.Prelude.{◌≡◌};
 ghost use Rattle.plant_text.specs.declared.fault.NetError.TheVariants.{NoMemory};
 
@@ -7,24 +7,24 @@ use std::alloc::{AllocError, AllocFailed};
 use std::fmt;
 use te_links::TopoFault;
 
-/// What is wrong in a file of a network. A row is told by the name of its table and its place there, from 0.
+/// A fault in a file of a network. A row is named by its table and its place there, from 0.
 #[derive(Drop)]
 pub enum NetFault {
     /// The settings are no TOML document.
     NotToml,
     /// A table has too many rows, or a row of it too many shared risk groups.
     TooMany(Text),
-    /// A row lacks a key, has one that is not known, or has a value out of form.
+    /// A row lacks a key, has an unknown key, or has a malformed value.
     Shape(Text, u32),
     /// A row repeats what an earlier one has.
     Duplicate(Text, u32),
-    /// A row names an element that there is not.
+    /// A row names an element that does not exist.
     Unknown(Text, u32),
-    /// An element asks a parent that there is not.
+    /// An element asks a parent, and there is none.
     NoParent(u32),
     /// A client is to be added at a domain that is no element.
     NoElement,
-    /// A topology is of another domain than the one that it is for.
+    /// A topology is of another domain than the one that it is loaded for.
     OtherAs,
     /// A change drops a row that is not there.
     Absent,
@@ -34,7 +34,7 @@ pub enum NetFault {
     Topo(TopoFault),
 }
 
-// What is wrong with a row of a table.
+// Writes the fault of a row of a table.
 fn fmt_row<W: fmt::Write>(
     f: &mut fmt::Formatter<W>,
     wrong: &str,
@@ -62,7 +62,7 @@ impl fmt::Display for NetFault {
     }
 }
 
-/// Why settings make no network: the first rule that they break, or want of memory.
+/// Why settings make no network: the first rule that they break, or out of memory.
 #[derive(Drop)]
 pub enum NetError {
     Fault(NetFault),
@@ -93,7 +93,7 @@ impl<T: Drop> From<AllocFailed<T>> for NetError {
     }
 }
 
-/// What a row of settings can break; at a row these go in this order.
+/// The breaches of a row of settings, in the order in which a row is tested for them.
 #[derive(Clone, Copy)]
 pub enum Breach {
     TooMany,

@@ -36,7 +36,7 @@ pub(crate) trait Formed: Sized {
     fn read(alloc: Global, table: &Table) -> Result<Self, LineError>
         ensures { Gives result (form.read (table_view table.now)) };
 
-    /// What a table that gives no row breaks.
+    /// The breach of a table that gives no row.
     fn wrong(table: &Table) -> Breach
         ensures { result ≡ form.wrong (table_view table.now) };
 }

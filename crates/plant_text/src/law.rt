@@ -1,4 +1,4 @@
-//! What the rules of settings are worth.
+//! What the rules of settings ensure.
 ghost use Rattle.plant_text.specs.Laws.{RulesAreWorth};
 
 /// Settings that obey the rules are those of a network: few elements, links, peers and rows of policy, numbers and

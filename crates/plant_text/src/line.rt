@@ -5,8 +5,8 @@ ghost use Rattle.plant_text.specs.declared.line.LineError.TheVariants.{NoMemory}
 use dom_base::{As, BorderRow, Bytes, List, NoMemory, Text, Tick};
 use std::alloc::{AllocError, AllocFailed};
 
-/// An event of a network, as a line gives it. A peer is None where the settings lack its name; the rows of `Solve`
-/// are empty but in lines of a network without topologies.
+/// An event of a network, as a line gives it. A peer is None where the settings do not have its name; the rows of
+/// `Solve` are empty except in lines of a network without topologies.
 #[derive(Drop)]
 pub enum LineEvent {
     Load(As, Text),
@@ -27,7 +27,7 @@ pub enum LineEvent {
     DiscloseOn,
 }
 
-/// Why a line gives no event: it is outside the form, or want of memory.
+/// Why a line gives no event: it is outside the form, or out of memory.
 #[derive(Clone, Copy, Debug, PartialEq, Eq)]
 pub enum LineError {
     Outside,

@@ -258,7 +258,7 @@ pub(crate) fn is_skipped(line: &[u8]) -> bool
 }
 
 /// The event that a line gives: None where it is blank or a comment. Words stand between blanks; numbers and
-/// addresses are as in texts of topologies. A name that no peer has is a peer that there is not.
+/// addresses are as in texts of topologies. A name that no peer has gives None as the peer.
 pub fn read_line(
     alloc: Global,
     line: &[u8],

@@ -122,8 +122,8 @@ impl Network {
     }
 
     /// The network with these settings, where they obey the rules: else the first rule that is broken. The tables
-    /// go in the order of the fields of `NetworkParts`, their rows in the given order; at a row there may be too
-    /// many, then its form is asked, then whether it repeats an earlier one, then whether what it names is there.
+    /// are tested in the order of the fields of `NetworkParts`, their rows in the given order; of a row the tests are,
+    /// in this order, the number of rows, its form, whether it repeats an earlier one, and whether what it names exists.
     pub fn build(alloc: Global, parts: NetworkParts) -> Result<Network, NetError>
         ensures same { IfOk result (λ n. n ≡ parts) }
         ensures obeyed { OnOk result (AreObeyed (rules_of parts)) }
@@ -141,7 +141,7 @@ impl Network {
     }
 
     /// The same network with one more outside peer: the client `path` of an element, which may have keys expanded.
-    /// No limit and no name counts it.
+    /// It counts for no limit and no rule of names.
     pub fn with_client(self, alloc: Global, at: As) -> Result<Network, NetError>
         ensures added { IfOk result (λ n. n ≡ with_path self at) }
         ensures element { OnOk result (has_element self at ≡ true) }

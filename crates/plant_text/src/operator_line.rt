@@ -1,7 +1,7 @@
 //! What the lines of operators ask for.
 use dom_base::{As, Text};
 
-/// Whose counts an operator asks for. A peer is None where the settings lack its name.
+/// Whose counts an operator asks for. A peer is None where the settings do not have its name.
 #[derive(Clone, Copy)]
 pub enum Subject {
     All,
@@ -9,7 +9,7 @@ pub enum Subject {
     Peer(Option<u32>),
 }
 
-/// What an operator asks for, as a line gives it. A peer is None where the settings lack its name.
+/// What an operator asks for, as a line gives it. A peer is None where the settings do not have its name.
 #[derive(Drop)]
 pub enum OperatorLine {
     Load(As, Text),

@@ -30,7 +30,7 @@ pub(crate) trait Row: Sized {
         ensures { result ≡ first_of (rules sheet.now before.now self.now) };
 }
 
-// What the first test that holds tells.
+// The breach of the first test that holds.
 pub(crate) fn first(rules: &[(bool, Breach)]) -> Option<Breach>
     ensures { result ≡ first_of rules.now }
 {

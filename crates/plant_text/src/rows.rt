@@ -15,7 +15,7 @@ use dom_base::{List, NoMemory};
 use std::alloc::Global;
 use toml::{Table, Value};
 
-/// The rows of a table, up to the first that is out of form, and what is wrong with that one.
+/// The rows of a table up to the first malformed row, and what is wrong with that row.
 #[derive(Drop)]
 pub struct Found<R> {
     pub rows: List<R>,
@@ -75,7 +75,7 @@ fn rows_among<R: Formed + Drop>(alloc: Global, items: &[Value]) -> Result<Found<
     Ok(Found { rows, cut: None })
 }
 
-/// The rows that stand at the name of a table of rows.
+/// The rows of the table of this name.
 pub(crate) fn rows_at<R: Formed + Drop>(
     alloc: Global,
     table: &Table,

@@ -24,7 +24,7 @@ fn line_of(alloc: Global, line: u32, from: As, to: &Text, bytes: &[u8]) -> Resul
 }
 
 /// Writes a message that was sent in an event, `LINE FROM>TO HEX` and a line feed, at the end: the line of the event,
-/// who sent it to whom, and its bytes in hexadecimal digits. After a refusal `into` is as before.
+/// who sent it to whom, and its bytes in hexadecimal digits. On `NoMemory` `into` is as before.
 pub fn write_sent(
     alloc: Global,
     line: u32,

@@ -1,4 +1,4 @@
--- What a table of requests is, by its fields.
+-- A table of requests as contracts see it, by its fields.
 use Rattle.std.specs.Prelude.{◌≡◌, min}
 use Rattle.std.specs.Map.{lookup}
 use Rattle.indexmap.specs.IndexMap.{spare}

@@ -46,7 +46,7 @@ IsFull pending = (pending.limit ≤ length pending.rows) ⊎ (pending.given ≡ 
 abbrev pub is_full : {T : Type 0} → Pending T → Bool
 is_full pending = nat_le pending.limit (length pending.rows) || (pending.given == 2 ^ 64 - 1)
 
--- whose the request of this number is, and the id that it has there
+-- who sent the request of this number, and under which id
 abbrev pub key_at : {T : Type 0} → Pending T → ℕ → Option RequestKey
 key_at pending number = option_map (λ held. held.key) (lookup (nat_eq number) pending.rows)
 

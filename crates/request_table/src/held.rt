@@ -1,4 +1,4 @@
-//! A pending request, and what names it.
+//! A pending request, and its name.
 use dom_base::Peer;
 
 /// Who asked, and the id that it gave its request. No two pending requests have the same.

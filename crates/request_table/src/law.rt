@@ -1,12 +1,12 @@
 //! What is found in a table after a change, as laws.
 ghost use Rattle.request_table.specs.Laws.{OpenLaw, CloseLaw, FullLaw};
 
-/// What a table answers once a request was opened.
+/// The answers of a table after a request was opened.
 pub fn finds_after_open<T>()
     ensures { OpenLaw T }
 {}
 
-/// What a table answers once a request was closed.
+/// The answers of a table after a request was closed.
 pub fn finds_after_close<T>()
     ensures { CloseLaw T }
 {}

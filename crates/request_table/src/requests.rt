@@ -146,7 +146,7 @@ impl<T: Drop> Requests<T> {
         Ok(number)
     }
 
-    /// What belongs to a request.
+    /// The item of a request.
     pub fn get(&self, number: u64) -> Option<&T>
         ensures { option_copied result ≡ item_of self.now.kept number }
     {
@@ -156,7 +156,7 @@ impl<T: Drop> Requests<T> {
         }
     }
 
-    /// Whose a request is, and its id there.
+    /// Who sent a request, and under which id.
     pub fn key(&self, number: u64) -> Option<RequestKey>
         ensures { result ≡ key_at self.now.kept number }
     {
@@ -166,7 +166,7 @@ impl<T: Drop> Requests<T> {
         }
     }
 
-    /// What belongs to a request, to write.
+    /// The item of a request, for writing.
     pub fn get_mut(&mut self, number: u64) -> Option<&mut T>
         ensures* writes_back { sem 𝓛 (lends_item T.row self.entry number result) }
         ensures value { option_copied_mut result ≡ item_of self.old.kept number }

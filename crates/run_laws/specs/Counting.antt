@@ -1,4 +1,4 @@
--- How many requests a network without a parent sends: to one neighbour no more than it is fed octets. So no id comes round where few are fed.
+-- How many requests a network without a parent sends: to one neighbour no more than it is fed octets. So where few are fed no id wraps around.
 use Rattle.std.specs.Prelude.{◌≡◌, ◌≤◌, ◌+◌, ℕ, List, [], ◌∷◌, length, None}
 use Rattle.plant_laws.specs.plant_model.Types.{As, NetworkParts, Outside}
 use Rattle.plant_laws.specs.plant_model.declared.event.Event.{Event}
@@ -43,7 +43,7 @@ abbrev pub AskedAreFew : Type 0
 AskedAreFew = (n : NetworkParts) → IsNetwork n → HasNoParent n → (es : List Entry) (s : Plant) → Run wire n es s → (a b : As) →
     asks a b (deeds_of wire n es) ≤ heard (deeds_of wire n es)
 
--- So where no more octets were fed than there are ids, none comes round.
+-- So where no more octets were fed than there are ids, none wraps around.
 abbrev pub FewAreShort : Type 0
 FewAreShort = (n : NetworkParts) → IsNetwork n → HasNoParent n → (es : List Entry) (s : Plant) → Run wire n es s → fed_bytes es ≤ 4294967295 → IsShort (deeds_of wire n es)
 

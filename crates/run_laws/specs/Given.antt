@@ -1,4 +1,4 @@
--- What a line of a network without topologies asks for is an event that such a network has.
+-- Each line of a network without topologies asks for an event that such a network has.
 use Rattle.std.specs.Prelude.{◌≡◌, ℕ, List, Some}
 use Rattle.plant_laws.specs.plant_model.Types.{LineEvent, NetworkParts}
 use Rattle.plant_text.specs.declared.line.LineEvent.TheVariants as line

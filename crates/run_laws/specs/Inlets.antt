@@ -1,4 +1,4 @@
--- What an element takes from an outside peer was fed there by that peer.
+-- Each message that an element takes from an outside peer was fed there by that peer.
 use Rattle.std.specs.Prelude.{◌≡◌, ◌==◌, ℕ, cond, List, [], ◌∷◌, ◌++◌, Option, Contains}
 use Rattle.plant_laws.specs.plant_model.Types.{As, Message, NetworkParts, Outside}
 use Rattle.pcep_messages.specs.Messages.{Reads}
@@ -47,7 +47,7 @@ pub record WasFed (i : ℕ) (es : List Entry) (m : Message) : Type 0 where
   pub is_part : IsPart stream part
   pub reads : Reads part m
 
--- What is taken is what is heeded of such a message.
+-- A message that is taken is what is heeded of such a message.
 abbrev pub TakenWasFed : Type 0
 TakenWasFed =
     (n : NetworkParts) (es : List Entry) (s : Plant) → Run wire n es s →

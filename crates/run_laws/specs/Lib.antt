@@ -11,5 +11,5 @@ pub mod Ranges
 pub mod Sizes
 pub mod Given
 pub mod Settings
--- handed on from below
+-- re-exported from below
 pub use Rattle.plant_laws.specs as plant_laws

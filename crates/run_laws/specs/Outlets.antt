@@ -1,4 +1,4 @@
--- What drains hand out to an outside peer: what was put there for its connection, in order, from its Open on.
+-- Drains hand out to an outside peer what was put there for its connection, in order, from its Open on.
 use Rattle.std.specs.Prelude.{◌≡◌, ◌==◌, ℕ, true, cond, List, [], ◌∷◌, ◌++◌, map, Option, Some, None, option_map, Ok, Err}
 use Rattle.plant_laws.specs.plant_model.Types.{Message, NetworkParts, Outside}
 use Rattle.pcep_framing.specs.Frames.{joined}

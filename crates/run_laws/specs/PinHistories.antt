@@ -1,4 +1,4 @@
--- Which topologies a history tells, and that all pins are of these.
+-- The topologies that a history tells. All pins are of these.
 use Rattle.std.specs.Prelude.{◌≡◌, ◌⊎◌, ◌&&◌, ◌==◌, ℕ, cond, List, [], ◌∷◌, ◌++◌, Option, Some, None, Ok, Contains}
 use Rattle.plant_laws.specs.plant_model.Types.{As, NetworkParts}
 use Rattle.te_links.specs.Rows.{Rows}

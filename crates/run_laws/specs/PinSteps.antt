@@ -28,7 +28,7 @@ abbrev pub KnowsLoad : Known → Event → Answered → Type 0
 KnowsLoad known (event.Load d g) (Ok (Loaded k)) = known d k ≡ Some g
 KnowsLoad known e answer = Unit {0}
 
--- what a step makes of the current pins
+-- the current pins after a step
 abbrev pub Moves : Event → Answered → Plant → Plant → Type 0
 Moves (event.Load d g) (Ok (Loaded k)) s t = (k ≡ suc (s.current d).number) × (t.current ≡ set_as d (record { number = k; topology = g }) s.current)
 Moves e answer s t = t.current ≡ s.current

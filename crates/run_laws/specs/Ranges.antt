@@ -1,4 +1,4 @@
--- What texts give is within the ranges of its types.
+-- The values that texts give are within the ranges of their types.
 use Rattle.std.specs.Prelude.{◌≡◌, ◌<◌, ℕ, List, All, Some, Ok}
 use Rattle.te_links.specs.Rows.{Rows}
 use Rattle.te_text.specs.Reads.{Reads}
@@ -20,7 +20,7 @@ ChangesKeepRange = (text : List ℕ) (changes : List Change) (g t : Rows) → te
 abbrev pub AreOctets : List ℕ → Type 0
 AreOctets bytes = All (λ b. b < 256) bytes
 
--- What a line of `play` feeds is octets.
+-- The bytes that a line of `play` feeds are octets.
 abbrev pub FeedsAreOctets : Type 0
 FeedsAreOctets = (n : NetworkParts) (line : List ℕ) (e : LineEvent) → line_in n line ≡ Some (Some e) → AreOctets (octets_of e)
 

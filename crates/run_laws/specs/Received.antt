@@ -1,4 +1,4 @@
--- What an outside peer reads of the bytes that drains hand out over its connection.
+-- The messages that an outside peer reads from the bytes that drains hand out over its connection.
 use Rattle.std.specs.Prelude.{◌≡◌, ◌⊎◌, ℕ, true, false, List, [], map, Contains, Some, None}
 use Rattle.std.specs.List.{AllByRecursion}
 use Rattle.plant_laws.specs.plant_model.Types.{As, Message, Reply, Path, NetworkParts, Outside}
@@ -19,7 +19,7 @@ use Rattle.plant_laws.specs.About.{IsPathAnswer, IsShort, IsViaParent, Replies}
 use Rattle.plant_laws.specs.Headline.{HasNoneOfChain, IsOfChain, IsOfParent}
 use Rattle.run_laws.specs.Outlets.{Outlet, bytes_of, outlet}
 
--- what a framer makes of a whole stream
+-- the progress of a framer over a whole stream
 abbrev pub framed : Bytes → Progress
 framed stream = feed_of (record { held = []; bad = false }) stream
 

@@ -1,5 +1,5 @@
 -- The links of a network are calm: no message that stands in an inner queue takes a session down. So carrying messages and solving
--- jobs ends: each makes a weight less.
+-- jobs ends: each reduces a weight.
 use Rattle.std.specs.Prelude.{◌≡◌, ◌<◌, ◌≤◌, ◌+◌, ◌-◌, ◌*◌, ◌^◌, ℕ, Bool, true, false, cond, List, [], ◌∷◌, ◌++◌, length, Option, Some, None, Ok}
 use Rattle.plant_laws.specs.plant_model.Types.{As, ParentLink, Peer, Outside, Inner, Offer, Asked, Message, Wish, Phase, Held, NetworkParts}
 use Rattle.pcep_codes.specs.declared.TheConstants.{VERSION}
@@ -120,7 +120,7 @@ abbrev pub total : {X : Type 0} → (X → ℕ) → List X → ℕ
 total f [] = 0
 total f (x ∷ xs) = f x + total f xs
 
--- how many requests the parent sends its children for one, at most
+-- how many requests the parent sends its children for one request, at most
 abbrev pub errands_most : List ParentLink → List As → ℕ
 errands_most links children = total (λ child. length (tails child links) + 1) children
 
@@ -184,7 +184,7 @@ IsWork e = ⊥
 abbrev pub IsAccepted : Happened → Type 0
 IsAccepted h = h.answer ≡ Ok Done
 
--- Each carry and each solve that is accepted makes the weight less.
+-- Each carry and each solve that is accepted reduces the weight.
 abbrev pub WorkWeighsLess : Type 0
 WorkWeighsLess = (c : Codec) → IsCodec c → (n : NetworkParts) → IsNetwork n → (es : List Entry) (s : Plant) → Run c n es s →
     (e : Event) (h : Happened) → IsWork e → Steps c n s e h → IsAccepted h → IsShort (h.deeds ++ deeds_of c n es) → weight c n h.state < weight c n s

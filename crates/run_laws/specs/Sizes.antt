@@ -5,7 +5,7 @@ use Rattle.line_text.specs.Lines.{NumberedLine, told_lines}
 use Rattle.plant_laws.specs.plant_model.Types.{LineEvent, NetworkParts}
 use Rattle.plant_text.specs.Lines.{line_in, octets_of}
 
--- What a line of `play` feeds has no more octets than the line has bytes.
+-- A line of `play` feeds no more octets than the line has bytes.
 abbrev pub FeedsAreShort : Type 0
 FeedsAreShort = (n : NetworkParts) (line : List ℕ) (e : LineEvent) → line_in n line ≡ Some (Some e) → length (octets_of e) ≤ length line
 
@@ -13,6 +13,6 @@ FeedsAreShort = (n : NetworkParts) (line : List ℕ) (e : LineEvent) → line_in
 abbrev pub all_lengths : List NumberedLine → ℕ
 all_lengths lines = sum_by (λ (line : NumberedLine). length line.text) lines
 
--- The lines that tell something have together no more bytes than their text.
+-- The lines that are neither blank nor comments have together no more bytes than their text.
 abbrev pub LinesAreShort : Type 0
 LinesAreShort = (text : List ℕ) → all_lengths (told_lines text) ≤ length text

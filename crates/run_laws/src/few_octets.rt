@@ -1,4 +1,4 @@
-//! How many requests a network without a parent sends, for the octets that it is fed. Laws, as the contracts of calls that do nothing.
+//! A bound on the requests that a network without a parent sends: the octets that it is fed. Laws, as the contracts of calls that do nothing.
 ghost use Rattle.run_laws.specs.Counting.{AskedAreFew, FewAreShort, OverFewOctets, TakenAreFed};
 ghost use Rattle.plant_laws.specs.Answered.{RequestsAreAnsweredOnceIn};
 ghost use Rattle.plant_laws.specs.Certified.{SolvesCertifyIn};
@@ -19,12 +19,12 @@ pub fn asked_are_few()
 {}
 
 /// So where no more octets were fed than there are ids, no element sends a neighbour more requests than there
-/// are ids, and the laws of runs in which none comes round hold.
+/// are ids, and the laws of runs in which none wraps around hold.
 pub fn few_are_short()
     ensures { FewAreShort }
 {}
 
-/// So, over the wire of PCEP, with no premise but the rules of settings, that there is no parent, and that no more
+/// So, over the wire of PCEP, with no premises except the rules of settings, that there is no parent, and that no more
 /// octets were fed than there are ids: what clients and closed peers are answered, certificates, quiet, what is
 /// under way, one answer and one chain for each request, and what a key shows to whom.
 pub fn laws_of_few_octets()

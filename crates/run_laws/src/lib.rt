@@ -1,5 +1,5 @@
-//! What follows for every run of a network: links stay calm and work ends, requests are few where octets are, pins of one number are of one
-//! topology, outside peers are handed what is theirs, and texts give what events ask for. Laws, as the contracts of calls that do nothing.
+//! What follows for every run of a network: links stay calm and work ends, few octets make few requests, pins of one number are of one
+//! topology, drains give outside peers their own messages, and texts give what events ask for. Laws, as contracts of calls that do nothing.
 #![tactic(auto)]
 
 mod few_octets;

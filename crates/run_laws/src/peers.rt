@@ -17,7 +17,7 @@ pub fn drains_hand_out_all()
     ensures { DrainsHandOutAll }
 {}
 
-/// In every run in which no id comes round: cut into frames, what drains hand out over a connection and what waits there are just the
+/// In every run in which no id wraps around: cut into frames, what drains hand out over a connection and what waits there are just the
 /// messages that were put there for it, each read as it was meant.
 pub fn handed_is_read()
     ensures { HandedIsRead }

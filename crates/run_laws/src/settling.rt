@@ -2,7 +2,7 @@
 ghost use Rattle.run_laws.specs.Following.{WaysFollowSessions};
 ghost use Rattle.run_laws.specs.Settling.{CarriesBreakNothing, FewFollow, MessagesAreLight, NewNetworksWeigh, RunsAreCalm, WeighsAtMost, WorkEnds, WorkKeepsIds, WorkWeighsLess};
 
-/// In every run in which no id comes round, what stands in the two queues of a link follows the start of both of its sessions, and
+/// In every run in which no id wraps around, what stands in the two queues of a link follows the start of both of its sessions, and
 /// an element or the parent has requests of those neighbours alone whose sessions are open, and asks those alone.
 pub fn links_are_calm()
     ensures { RunsAreCalm }
@@ -19,9 +19,9 @@ pub fn carries_break_nothing()
     ensures { CarriesBreakNothing }
 {}
 
-/// In such a run each message that is carried and each job that is solved makes the weight of the network
-/// less, so no more of them follow one another than the weight is. Where ids are left for as many requests
-/// as the weight at the beginning, none comes round till the end.
+/// In such a run each message that is carried and each job that is solved reduces the weight of the network,
+/// so no more of them follow one another than the weight is. Where ids are left for as many requests
+/// as the weight at the beginning, none wraps around till the end.
 pub fn work_ends()
     ensures less { WorkWeighsLess }
     ensures ends { WorkEnds }

@@ -1,4 +1,4 @@
-//! What texts give is within bounds: the addresses of a topology, also behind changes, are numbers of their kinds; what
+//! The values that texts give are within bounds: the addresses of a topology, also behind changes, are numbers of their kinds; what
 //! a line feeds is octets, and no more than its bytes; rows that a line gives are in order; lines are no longer than their text; settings obey the rules of a
 //! network. Laws, as the contracts of calls that do nothing.
 ghost use Rattle.run_laws.specs.Given.{BlindLinesAreGiven};
@@ -16,7 +16,7 @@ pub fn changes_keep_range()
     ensures { ChangesKeepRange }
 {}
 
-/// What a line feeds to a peer is octets, in a network with topologies and in one without.
+/// The bytes that a line feeds to a peer are octets, in a network with topologies and in one without.
 pub fn feeds_are_octets()
     ensures played { FeedsAreOctets }
     ensures blind { BlindFeedsAreOctets }
@@ -28,12 +28,12 @@ pub fn blind_lines_are_given()
     ensures { BlindLinesAreGiven }
 {}
 
-/// What a line feeds to a peer has no more octets than the line has bytes.
+/// A line feeds a peer no more octets than the line has bytes.
 pub fn feeds_are_short()
     ensures { FeedsAreShort }
 {}
 
-/// The lines that tell something have together no more bytes than their text.
+/// The lines that are neither blank nor comments have together no more bytes than their text.
 pub fn lines_are_short()
     ensures { LinesAreShort }
 {}

@@ -32,7 +32,7 @@ use Rattle.server_loops.specs.Operating.{Context, Does, DoesAsked, IsEndOf, IsFi
 use Rattle.server_loops.specs.OperatorSteps.{Acted, Asked, DoesFile, DoesText, EndsAs, answered, file_of, Goes, IsBegun, IsFile, IsPartDone, Refuses, text_of}
 use Rattle.server_loops.specs.Texts.{bad_network_text, fault_text, read_fault_text, too_large_text}
 use Rattle.server_loops.specs.declared.operating.Operated.{Operated}
-use Rattle.server_loops.specs.declared.operating.Operated.TheVariants.{End, ReadFault, WriteFault, Turns, Spent, NoMemory}
+use Rattle.server_loops.specs.declared.operating.Operated.TheVariants.{End, ReadFault, Turns, Spent, NoMemory}
 
 -- ---- work
 
@@ -270,7 +270,6 @@ asked_out at NoMemory old new list asked = (refl, asked.1, inr (Err (record {}),
 asked_out at (Spent t) old new list asked = (refl, asked.1, inl (same_past old new list asked.0))
 asked_out at End old new list asked = absurd asked
 asked_out at ReadFault old new list asked = absurd asked
-asked_out at WriteFault old new list asked = absurd asked
 asked_out at Turns old new list asked = absurd asked
 
 pub shown_none : (at : As) (old new : Charted) (list : List Shown) → Asked at (Ok None) old new → Publishes (Ok tt) at true (past old list) (past new list) new.spent
@@ -289,7 +288,6 @@ pub acted_out : (P : Work → Type 0) (at : As) (g : Rows) (end : Operated) (old
 acted_out P at g (Spent t) old new list before after acted = (acted.1, inl (same_past old new list acted.0))
 acted_out P at g End old new list before after acted = absurd acted
 acted_out P at g ReadFault old new list before after acted = absurd acted
-acted_out P at g WriteFault old new list before after acted = absurd acted
 acted_out P at g Turns old new list before after acted = absurd acted
 acted_out P at g NoMemory old new list before after acted = absurd acted
 
@@ -300,7 +298,6 @@ asked_goes_out P at NoMemory old new list other some rest before after does is a
     one_untold P NoMemory at (Err (record {})) other some rest (past old list) (past new list) new.spent before after does is refl asked.1 asked.0 refl
 asked_goes_out P at End old new list other some rest before after does is asked = absurd asked
 asked_goes_out P at ReadFault old new list other some rest before after does is asked = absurd asked
-asked_goes_out P at WriteFault old new list other some rest before after does is asked = absurd asked
 asked_goes_out P at Turns old new list other some rest before after does is asked = absurd asked
 
 -- ---- lines

@@ -10,13 +10,14 @@ use Rattle.dom_edge.specs.Streams.{Reading, Writing, IsRead}
 use Rattle.dom_edge.specs.Whole.{AppendsSome}
 use Rattle.dom_edge.specs.declared.stream.Got.{Got}
 use Rattle.dom_edge.specs.declared.stream.Got.TheVariants as got
+use Rattle.network_links.specs.declared.rest.Rest.TheVariants.{Messages}
 use Rattle.plant_model.specs.declared.event.Event.{Event}
 use Rattle.plant_model.specs.declared.event.Event.TheVariants.{Open, Feed, Take}
 use Rattle.plant_model.specs.declared.outcome.Refused.{Refused}
 use Rattle.plant_model.specs.declared.outcome.Refused.TheVariants.{NoMemory as NoRoom}
 use Rattle.server_loops.specs.Desks.{Call, call}
 use Rattle.dom_edge.specs.Heeding.{Sides}
-use Rattle.server_loops.specs.Sessions.{bytes_of, drained, drained_by, fed, fed_by, joined, refused, IsAccepted, IsDrained, HasRead, IsFed, AreTakes, IsTurn, AreTurns, IsRefused, Last, IsShut, Makes, Writes, Feeds}
+use Rattle.server_loops.specs.Sessions.{bytes_of, drained, drained_by, fed, fed_by, joined, refused, IsDrained, HasRead, IsFed, EndsTakes, IsLastTake, IsTake, AreTakes, IsTurn, AreTurns, IsRefused, Last, IsShut, Makes, Writes, Feeds}
 use Rattle.server_loops.specs.declared.sessions.Ended.{Ended}
 use Rattle.server_loops.specs.declared.sessions.Ended.TheVariants.{Closed, PeerEnd, ReadFault, WriteFault, Turns, NotOpened, Lost, Spent, NoMemory}
 
@@ -32,29 +33,33 @@ fed_on a b = flat_map-append (λ (c : Call). fed_by c.event) a b
 
 -- Takes drain and feed nothing
 module _ (peer : ℕ) where
-  accepted_drain : (takes : List Call) → AllByRecursion (IsAccepted (Take peer)) takes → drained takes ≡ []
+  accepted_drain : (takes : List Call) → AllByRecursion (IsTake peer Messages) takes → drained takes ≡ []
   accepted_drain [] each = refl
-  accepted_drain (c ∷ cs) each = ap (λ (e : Event). drained_by e c.answer ++ drained cs) each.0.event ∙ accepted_drain cs each.1
+  accepted_drain (c ∷ cs) each = ap (λ (e : Event). drained_by e c.answer ++ drained cs) each.0.accepted.event ∙ accepted_drain cs each.1
 
-  accepted_feed : (takes : List Call) → AllByRecursion (IsAccepted (Take peer)) takes → fed takes ≡ []
+  accepted_feed : (takes : List Call) → AllByRecursion (IsTake peer Messages) takes → fed takes ≡ []
   accepted_feed [] each = refl
-  accepted_feed (c ∷ cs) each = ap (λ (e : Event). fed_by e ++ fed cs) each.0.event ∙ accepted_feed cs each.1
+  accepted_feed (c ∷ cs) each = ap (λ (e : Event). fed_by e ++ fed cs) each.0.accepted.event ∙ accepted_feed cs each.1
 
-  last_drains : (taken last : List Call) → (length taken ≡ 65536) × (last ≡ []) ⊎ ((why : Refused) × (length taken < 65536) × (last ≡ refused (Take peer) why ∷ [])) → drained last ≡ []
-  last_drains taken last (inl is) = ap drained is.1
-  last_drains taken last (inr is) = ap drained is.2
+  last_event : (c : Call) → IsLastTake peer c → c.event ≡ Take peer
+  last_event c (inl is) = ap (λ (x : Call). x.event) is.1
+  last_event c (inr is) = is.2.accepted.event
 
-  last_feeds : (taken last : List Call) → (length taken ≡ 65536) × (last ≡ []) ⊎ ((why : Refused) × (length taken < 65536) × (last ≡ refused (Take peer) why ∷ [])) → fed last ≡ []
-  last_feeds taken last (inl is) = ap fed is.1
-  last_feeds taken last (inr is) = ap fed is.2
+  last_drains : (count : ℕ) (last : List Call) → EndsTakes peer count last → drained last ≡ []
+  last_drains count last (inl is) = ap drained is.1
+  last_drains count last (inr is) = ap drained is.1.2 ∙ ap (λ (e : Event). drained_by e is.1.0.answer ++ []) (last_event is.1.0 is.1.1)
+
+  last_feeds : (count : ℕ) (last : List Call) → EndsTakes peer count last → fed last ≡ []
+  last_feeds count last (inl is) = ap fed is.1
+  last_feeds count last (inr is) = ap fed is.1.2 ∙ ap (λ (e : Event). fed_by e ++ []) (last_event is.1.0 is.1.1)
 
   takes_drain : (takes : List Call) → AreTakes peer takes → drained takes ≡ []
   takes_drain takes are =
-      ap drained are.is ∙ drained_on are.taken are.last ∙ ap (λ (xs : List ℕ). xs ++ drained are.last) (accepted_drain are.taken are.each) ∙ last_drains are.taken are.last are.ends
+      ap drained are.is ∙ drained_on are.taken are.last ∙ ap (λ (xs : List ℕ). xs ++ drained are.last) (accepted_drain are.taken are.each) ∙ last_drains (length are.taken) are.last are.ends
 
   takes_feed : (takes : List Call) → AreTakes peer takes → fed takes ≡ []
   takes_feed takes are =
-      ap fed are.is ∙ fed_on are.taken are.last ∙ ap (λ (xs : List ℕ). xs ++ fed are.last) (accepted_feed are.taken are.each) ∙ last_feeds are.taken are.last are.ends
+      ap fed are.is ∙ fed_on are.taken are.last ∙ ap (λ (xs : List ℕ). xs ++ fed are.last) (accepted_feed are.taken are.each) ∙ last_feeds (length are.taken) are.last are.ends
 
   feeds_drain : (answer : Got) (into : List ℕ) (feeds : List Call) → IsFed peer answer into feeds → drained feeds ≡ []
   feeds_drain (got.Bytes n) into feeds is = ap drained is.1

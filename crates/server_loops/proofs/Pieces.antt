@@ -3,34 +3,29 @@ use Rattle.std.proofs.Common.{◌≡◌, ◌≢◌, ◌⊎◌, inl, inr, ◌+◌
 use Rattle.std.specs.List.{flat_map}
 use Rattle.std.specs.declared.option.Option.{Option}
 use Rattle.std.specs.Str.Lines.{strip_carriage_return}
-use Rattle.std.specs.Io.KnownBytes.{Appends}
-use Rattle.std.proofs.KnownBytes.{Appends-nil, Appends-trans}
-use Rattle.std.proofs.Math.Seq.{take-append-add}
 use Rattle.std.proofs.lemmas.List.{length-map, map-append}
 use Rattle.std.proofs.lemmas.List.Elements.{All-append, All-nil, All-push}
 use Rattle.std.proofs.lemmas.List.Concat.{flat_map-append}
-use Rattle.dom_edge.specs.Whole.{AppendsSome}
-use Rattle.server_loops.specs.Operating.{AreDone, AreTaken, Context, EndsBy, HasNoEnd, IsCut, IsDone, IsEndOf, IsLeft, IsNext, Progress, Stops, ended, line_most}
+use Rattle.server_loops.specs.Operating.{AreDone, AreSaid, AreTaken, Context, EndsBy, HasNoEnd, IsCut, IsDone, IsEndOf, IsLeft, IsNext, IsSaid, Progress, Side, Stops, ended, line_most}
 use Rattle.server_loops.specs.OperatorSteps.{Begun, Cuts, CutsOff, EndsLine, Feeds, Finishes, IsBegun, Lasts, TakesOn, text_of}
 use Rattle.server_loops.specs.declared.operating.Operated.{Operated}
-use Rattle.server_loops.specs.declared.operating.Operated.TheVariants.{End, ReadFault, WriteFault, Turns, Spent, NoMemory}
+use Rattle.server_loops.specs.declared.operating.Operated.TheVariants.{End, ReadFault, Turns, Spent, NoMemory}
 
--- ---- what was written
+-- ---- what is said
 
--- a first part of a text behind a whole one
-pub some_on : (a b c : Option (List ℕ)) (s t : List ℕ) → Appends a b s → AppendsSome b c t → AppendsSome a c (s ++ t)
-some_on a b c s t first second = record {
-  count = length s + second.count;
-  within = omega (arith, second.within, length-append s t);
-  added = subst (Appends a c) (sym (take-append-add s t second.count)) (Appends-trans a b c s (take second.count t) first second.added);
-}
+pub said_on : (told more : List (List ℕ)) (a b c : Side) → AreSaid told a b → AreSaid more b c → AreSaid (told ++ more) a c
+said_on [] more a b c first second = subst (λ (s : Side). AreSaid more s c) first second
+said_on (text ∷ texts) more a b c first second = (first.0, first.1, said_on texts more first.0 b c first.2 second)
+
+pub one_said : (text : List ℕ) (a b : Side) → IsSaid text a b → AreSaid (text ∷ []) a b
+one_said text a b said = (b, said, refl)
 
 module _ (x : Context) where
   -- ---- lines that are done
 
-  done_on : (k : ℕ) (ls ms : List (List ℕ)) (a b c : Progress) (s t : List ℕ) → AreDone x k ls a b s → AreDone x (k + length ls) ms b c t → AreDone x k (ls ++ ms) a c (s ++ t)
+  done_on : (k : ℕ) (ls ms : List (List ℕ)) (a b c : Progress) (s t : List (List ℕ)) → AreDone x k ls a b s → AreDone x (k + length ls) ms b c t → AreDone x k (ls ++ ms) a c (s ++ t)
   done_on k [] ms a b c s t first second =
-      subst (λ (u : List ℕ). AreDone x k ms a c (u ++ t)) (sym first.1)
+      subst (λ (u : List (List ℕ)). AreDone x k ms a c (u ++ t)) (sym first.1)
       (subst (λ (m : Progress). AreDone x k ms m c t) first.0 (subst (λ (j : ℕ). AreDone x j ms b c t) (omega arith) second))
   done_on k (l ∷ ls) ms a b c s t first second = (
     first.0,
@@ -38,11 +33,11 @@ module _ (x : Context) where
     first.2 ++ t,
     first.3,
     done_on (k + 1) ls ms first.0 b c first.2 t first.4 (subst (λ (j : ℕ). AreDone x j ms b c t) (omega arith) second),
-    ap (λ (u : List ℕ). u ++ t) first.5 ∙ append_assoc first.1 first.2 t,
+    ap (λ (u : List (List ℕ)). u ++ t) first.5,
   )
 
   -- further bytes behind a rest
-  pub taken_on : (k m n : ℕ) (bytes line p rest : List ℕ) (a b c : Progress) (s t : List ℕ) → AreTaken x k m bytes line a b s → AreTaken x m n (line ++ p) rest b c t → AreTaken x k n (bytes ++ p) rest a c (s ++ t)
+  pub taken_on : (k m n : ℕ) (bytes line p rest : List ℕ) (a b c : Progress) (s t : List (List ℕ)) → AreTaken x k m bytes line a b s → AreTaken x m n (line ++ p) rest b c t → AreTaken x k n (bytes ++ p) rest a c (s ++ t)
   taken_on k m n bytes line p rest a b c s t first second =
       let F : List (List ℕ) → List ℕ = λ (ls : List (List ℕ)). flat_map ended ls in
       record {
@@ -63,7 +58,7 @@ module _ (x : Context) where
   taken_none k line a = record { whole = []; each = All-nil HasNoEnd; is = refl; count = omega arith; are_done = (refl, refl) }
 
   -- bytes behind the rest that are no longer looked at
-  taken_more : (k n : ℕ) (bytes rest more : List ℕ) (a b : Progress) (s : List ℕ) → AreTaken x k n bytes rest a b s → AreTaken x k n (bytes ++ more) (rest ++ more) a b s
+  taken_more : (k n : ℕ) (bytes rest more : List ℕ) (a b : Progress) (s : List (List ℕ)) → AreTaken x k n bytes rest a b s → AreTaken x k n (bytes ++ more) (rest ++ more) a b s
   taken_more k n bytes rest more a b s t = record {
     whole = t.whole;
     each = t.each;
@@ -73,13 +68,13 @@ module _ (x : Context) where
   }
 
   -- one line
-  one_taken : (k n : ℕ) (line : List ℕ) (a b : Progress) (s : List ℕ) → HasNoEnd line → n ≡ k + 1 → IsDone x (k + 1) (strip_carriage_return line) a b s → AreTaken x k n (line ++ 10 ∷ []) [] a b s
+  one_taken : (k n : ℕ) (line : List ℕ) (a b : Progress) (s : List ℕ) → HasNoEnd line → n ≡ k + 1 → IsDone x (k + 1) (strip_carriage_return line) a b s → AreTaken x k n (line ++ 10 ∷ []) [] a b (s ∷ [])
   one_taken k n line a b s never next done = record {
     whole = line ∷ [];
     each = All-push HasNoEnd [] line (All-nil HasNoEnd) never;
     is = sym (append-nil (flat_map ended (line ∷ [])) ∙ append-nil (ended line));
     count = next;
-    are_done = (b, s, [], done, (refl, refl), sym (append-nil s));
+    are_done = (b, s, [], done, (refl, refl), refl);
   }
 
   -- ---- how it stops
@@ -92,25 +87,23 @@ module _ (x : Context) where
   left_as L M f k rest a b (inl e) = inl e
   left_as L M f k rest a b (inr p) = inr (p.0, next_as L M f rest p.0 p.1, p.2)
 
-  pub stops_as : (L M : Type 0) → (L → M) → (k : ℕ) (end : Operated) (rest : List ℕ) (a b : Progress) (old new : Option (List ℕ)) (s : List ℕ) → Stops x k end L rest a b old new s → Stops x k end M rest a b old new s
+  pub stops_as : (L M : Type 0) → (L → M) → (k : ℕ) (end : Operated) (rest : List ℕ) (a b : Progress) (old new : Side) (s : List (List ℕ)) → Stops x k end L rest a b old new s → Stops x k end M rest a b old new s
   stops_as L M f k End rest a b old new s stops = stops
   stops_as L M f k ReadFault rest a b old new s stops = stops
   stops_as L M f k Turns rest a b old new s stops = stops
-  stops_as L M f k WriteFault rest a b old new s stops = (stops.0, stops.1, next_as L M f rest stops.0 stops.2, stops.3, stops.4)
   stops_as L M f k (Spent t) rest a b old new s stops = (left_as L M f k rest a b stops.0, stops.1)
   stops_as L M f k NoMemory rest a b old new s stops = (left_as L M f k rest a b stops.0, stops.1)
 
-  ends_on : (k : ℕ) (rest : List ℕ) (a b : Progress) (old mid new : Option (List ℕ)) (s t : List ℕ) → Appends old mid s → EndsBy x k rest a b mid new t → EndsBy x k rest a b old new (s ++ t)
-  ends_on k [] a b old mid new s t first ends = (ends.0, Appends-trans old mid new s t first ends.1)
-  ends_on k (c ∷ cs) a b old mid new s t first ends = (ends.0, ends.1, subst (Appends old new) (sym (append_assoc s t ends.0)) (Appends-trans old mid new s (t ++ ends.0) first ends.2))
+  ends_on : (k : ℕ) (rest : List ℕ) (a b : Progress) (old mid new : Side) (s t : List (List ℕ)) → AreSaid s old mid → EndsBy x k rest a b mid new t → EndsBy x k rest a b old new (s ++ t)
+  ends_on k [] a b old mid new s t first ends = (ends.0, said_on s t old mid new first ends.1)
+  ends_on k (c ∷ cs) a b old mid new s t first ends = (ends.0, ends.1, subst (λ (u : List (List ℕ)). AreSaid u old new) (sym (append_assoc s t (ends.0 ∷ []))) (said_on s (t ++ ends.0 ∷ []) old mid new first ends.2))
 
-  pub stops_on : (L : Type 0) (k : ℕ) (end : Operated) (rest : List ℕ) (a b : Progress) (old mid new : Option (List ℕ)) (s t : List ℕ) → Appends old mid s → Stops x k end L rest a b mid new t → Stops x k end L rest a b old new (s ++ t)
+  pub stops_on : (L : Type 0) (k : ℕ) (end : Operated) (rest : List ℕ) (a b : Progress) (old mid new : Side) (s t : List (List ℕ)) → AreSaid s old mid → Stops x k end L rest a b mid new t → Stops x k end L rest a b old new (s ++ t)
   stops_on L k End rest a b old mid new s t first stops = (stops.0, ends_on k rest a b old mid new s t first stops.1)
-  stops_on L k ReadFault rest a b old mid new s t first stops = (stops.0, stops.1, Appends-trans old mid new s t first stops.2)
-  stops_on L k Turns rest a b old mid new s t first stops = (stops.0, stops.1, Appends-trans old mid new s t first stops.2)
-  stops_on L k WriteFault rest a b old mid new s t first stops = (stops.0, stops.1, stops.2, stops.3, subst (AppendsSome old new) (sym (append_assoc s t stops.1)) (some_on old mid new s (t ++ stops.1) first stops.4))
-  stops_on L k (Spent n) rest a b old mid new s t first stops = (stops.0, Appends-trans old mid new s t first stops.1)
-  stops_on L k NoMemory rest a b old mid new s t first stops = (stops.0, Appends-trans old mid new s t first stops.1)
+  stops_on L k ReadFault rest a b old mid new s t first stops = (stops.0, stops.1, said_on s t old mid new first stops.2)
+  stops_on L k Turns rest a b old mid new s t first stops = (stops.0, stops.1, said_on s t old mid new first stops.2)
+  stops_on L k (Spent n) rest a b old mid new s t first stops = (stops.0, said_on s t old mid new first stops.1)
+  stops_on L k NoMemory rest a b old mid new s t first stops = (stops.0, said_on s t old mid new first stops.1)
 
   next_more : (rest more text : List ℕ) → IsNext ⊥ rest text → IsNext ⊥ (rest ++ more) text
   next_more rest more text (inl n) = inl (n.0, n.1 ++ more, n.2, ap (λ (y : List ℕ). y ++ more) n.3 ∙ append_assoc (ended n.0) n.1 more, n.4)
@@ -120,27 +113,26 @@ module _ (x : Context) where
   left_more k rest more a b (inl e) = inl e
   left_more k rest more a b (inr p) = inr (p.0, next_more rest more p.0 p.1, p.2)
 
-  stops_more : (k : ℕ) (end : Operated) (rest more : List ℕ) (a b : Progress) (old new : Option (List ℕ)) (s : List ℕ) (before after : ℕ) (spent : Option ℕ) → Cuts end before after spent → Stops x k end ⊥ rest a b old new s → Stops x k end ⊥ (rest ++ more) a b old new s
-  stops_more k End rest more a b old new s before after spent cuts stops = absurd cuts
-  stops_more k ReadFault rest more a b old new s before after spent cuts stops = absurd cuts
-  stops_more k Turns rest more a b old new s before after spent cuts stops = absurd cuts
-  stops_more k WriteFault rest more a b old new s before after spent cuts stops = (stops.0, stops.1, next_more rest more stops.0 stops.2, stops.3, stops.4)
-  stops_more k (Spent t) rest more a b old new s before after spent cuts stops = (left_more k rest more a b stops.0, stops.1)
-  stops_more k NoMemory rest more a b old new s before after spent cuts stops = (left_more k rest more a b stops.0, stops.1)
+  stops_more : (k : ℕ) (end : Operated) (rest more : List ℕ) (a b : Progress) (old new : Side) (s : List (List ℕ)) (spent : Option ℕ) → Cuts end spent → Stops x k end ⊥ rest a b old new s → Stops x k end ⊥ (rest ++ more) a b old new s
+  stops_more k End rest more a b old new s spent cuts stops = absurd cuts
+  stops_more k ReadFault rest more a b old new s spent cuts stops = absurd cuts
+  stops_more k Turns rest more a b old new s spent cuts stops = absurd cuts
+  stops_more k (Spent t) rest more a b old new s spent cuts stops = (left_more k rest more a b stops.0, stops.1)
+  stops_more k NoMemory rest more a b old new s spent cuts stops = (left_more k rest more a b stops.0, stops.1)
 
   -- ---- pieces
 
-  module _ (a b c : Progress) (old mid new : Option (List ℕ)) where
+  module _ (a b c : Progress) (old mid new : Side) where
     -- lines that were taken, and what ends them
-    pub cut_on : (L : Type 0) (end : Operated) (p q line left : List ℕ) (k m : ℕ) (s : List ℕ) → AreTaken x k m (line ++ p) left a b s → Appends old mid s → CutsOff x end L q left m b c mid new → CutsOff x end L (p ++ q) line k a c old new
-    cut_on L end p q line left k m s first written second = record {
+    pub cut_on : (L : Type 0) (end : Operated) (p q line left : List ℕ) (k m : ℕ) (s : List (List ℕ)) → AreTaken x k m (line ++ p) left a b s → AreSaid s old mid → CutsOff x end L q left m b c mid new → CutsOff x end L (p ++ q) line k a c old new
+    cut_on L end p q line left k m s first said second = record {
       rest = second.rest;
       done = second.done;
       mid = second.mid;
       told = s ++ second.told;
       taken = subst (λ (y : List ℕ). AreTaken x k second.done y second.rest a second.mid (s ++ second.told)) (append_assoc line p q)
           (taken_on k m second.done (line ++ p) left q second.rest a b second.mid s second.told first second.taken);
-      stops = stops_on L (second.done + 1) end second.rest second.mid c old mid new s second.told written second.stops;
+      stops = stops_on L (second.done + 1) end second.rest second.mid c old mid new s second.told said second.stops;
     }
 
     -- one piece behind the other
@@ -151,48 +143,48 @@ module _ (x : Context) where
       told = first.told ++ second.told;
       taken = subst (λ (y : List ℕ). AreTaken x f.before h.before y second.left a c (first.told ++ second.told)) (append_assoc line p q)
           (taken_on f.before g.before h.before (line ++ p) first.left q second.left a b c first.told second.told first.taken second.taken);
-      written = Appends-trans old mid new first.told second.told first.written second.written;
+      said = said_on first.told second.told old mid new first.said second.said;
     }
-    fed_on p q line f g h (Err end) first second = cut_on ⊥ end p q line first.left f.before g.before first.told first.taken first.written second
+    fed_on p q line f g h (Err end) first second = cut_on ⊥ end p q line first.left f.before g.before first.told first.taken first.said second
 
-  pub fed_more : (p q line : List ℕ) (k : ℕ) (end : Operated) (a b : Progress) (old new : Option (List ℕ)) (before after : ℕ) (spent : Option ℕ) → Cuts end before after spent → CutsOff x end ⊥ p line k a b old new → CutsOff x end ⊥ (p ++ q) line k a b old new
-  fed_more p q line k end a b old new before after spent cuts fed = record {
+  pub fed_more : (p q line : List ℕ) (k : ℕ) (end : Operated) (a b : Progress) (old new : Side) (spent : Option ℕ) → Cuts end spent → CutsOff x end ⊥ p line k a b old new → CutsOff x end ⊥ (p ++ q) line k a b old new
+  fed_more p q line k end a b old new spent cuts fed = record {
     rest = fed.rest ++ q;
     done = fed.done;
     mid = fed.mid;
     told = fed.told;
     taken = subst (λ (y : List ℕ). AreTaken x k fed.done y (fed.rest ++ q) a fed.mid fed.told) (append_assoc line p q) (taken_more k fed.done (line ++ p) fed.rest q a fed.mid fed.told fed.taken);
-    stops = stops_more (fed.done + 1) end fed.rest q fed.mid b old new fed.told before after spent cuts fed.stops;
+    stops = stops_more (fed.done + 1) end fed.rest q fed.mid b old new fed.told spent cuts fed.stops;
   }
 
-  pub none_fed : (line : List ℕ) (f : Begun) (a : Progress) (old : Option (List ℕ)) → IsBegun f.bytes f.is_long line → TakesOn x [] line f f a a old old
+  pub none_fed : (line : List ℕ) (f : Begun) (a : Progress) (old : Side) → IsBegun f.bytes f.is_long line → TakesOn x [] line f f a a old old
   none_fed line f a old is = record {
     left = line;
     is_begun = is;
     told = [];
     taken = subst (λ (y : List ℕ). AreTaken x f.before f.before y line a a []) (sym (append-nil line)) (taken_none f.before line a);
-    written = Appends-nil old;
+    said = refl;
   }
 
   -- a byte that ends no line
-  pub byte_fed : (byte : ℕ) (line : List ℕ) (f g : Begun) (a : Progress) (old : Option (List ℕ)) → g.before ≡ f.before → IsBegun g.bytes g.is_long (line ++ byte ∷ []) → TakesOn x (byte ∷ []) line f g a a old old
+  pub byte_fed : (byte : ℕ) (line : List ℕ) (f g : Begun) (a : Progress) (old : Side) → g.before ≡ f.before → IsBegun g.bytes g.is_long (line ++ byte ∷ []) → TakesOn x (byte ∷ []) line f g a a old old
   byte_fed byte line f g a old same is = record {
     left = line ++ byte ∷ [];
     is_begun = is;
     told = [];
     taken = subst (λ (j : ℕ). AreTaken x f.before j (line ++ byte ∷ []) (line ++ byte ∷ []) a a []) (sym same) (taken_none f.before (line ++ byte ∷ []) a);
-    written = Appends-nil old;
+    said = refl;
   }
 
   -- a byte for which memory lacks
-  pub byte_lacks : (byte : ℕ) (line : List ℕ) (k : ℕ) (end : Operated) (a : Progress) (old : Option (List ℕ)) → end ≡ NoMemory → CutsOff x end ⊥ (byte ∷ []) line k a a old old
+  pub byte_lacks : (byte : ℕ) (line : List ℕ) (k : ℕ) (end : Operated) (a : Progress) (old : Side) → end ≡ NoMemory → CutsOff x end ⊥ (byte ∷ []) line k a a old old
   byte_lacks byte line k end a old is = record {
     rest = line ++ byte ∷ [];
     done = k;
     mid = a;
     told = [];
     taken = taken_none k (line ++ byte ∷ []) a;
-    stops = subst (λ (e : Operated). Stops x (k + 1) e ⊥ (line ++ byte ∷ []) a a old old []) (sym is) (inl refl, Appends-nil old);
+    stops = subst (λ (e : Operated). Stops x (k + 1) e ⊥ (line ++ byte ∷ []) a a old old []) (sym is) (inl refl, refl);
   }
 
   next : (line : List ℕ) → HasNoEnd line → IsNext ⊥ (line ++ 10 ∷ []) (strip_carriage_return line)
@@ -203,44 +195,36 @@ module _ (x : Context) where
   part line never a b f (inr cut) = inr (strip_carriage_return line, next line never, cut)
 
   -- the end of a line
-  pub line_fed : (line : List ℕ) (f g : Begun) (r : Result (Unit {0}) Operated) (a b : Progress) (old new : Option (List ℕ)) (before after : ℕ) (spent : Option ℕ) → HasNoEnd line → Lasts r before after spent → EndsLine x true line r f g a b old new → Feeds x (10 ∷ []) r line f g a b old new
-  line_fed line f g (Ok t) a b old new before after spent never lasts ends = record {
+  pub line_fed : (line : List ℕ) (f g : Begun) (r : Result (Unit {0}) Operated) (a b : Progress) (old new : Side) (spent : Option ℕ) → HasNoEnd line → Lasts r spent → EndsLine x true line r f g a b old new → Feeds x (10 ∷ []) r line f g a b old new
+  line_fed line f g (Ok t) a b old new spent never lasts ends = record {
     left = [];
     is_begun = ends.4;
-    told = ends.0;
+    told = ends.0 ∷ [];
     taken = one_taken f.before g.before line a b ends.0 never ends.3 ends.1;
-    written = ends.2;
+    said = one_said ends.0 old new ends.2;
   }
-  line_fed line f g (Err WriteFault) a b old new before after spent never lasts ends = record {
+  line_fed line f g (Err (Spent t)) a b old new spent never lasts ends = record {
     rest = line ++ 10 ∷ [];
     done = f.before;
     mid = a;
     told = [];
     taken = taken_none f.before (line ++ 10 ∷ []) a;
-    stops = (strip_carriage_return line, ends.0, next line never, ends.1, ends.2);
+    stops = (part line never a b f ends.0, ends.1);
   }
-  line_fed line f g (Err (Spent t)) a b old new before after spent never lasts ends = record {
+  line_fed line f g (Err NoMemory) a b old new spent never lasts ends = record {
     rest = line ++ 10 ∷ [];
     done = f.before;
     mid = a;
     told = [];
     taken = taken_none f.before (line ++ 10 ∷ []) a;
-    stops = (part line never a b f ends.0, subst (λ (o : Option (List ℕ)). Appends old o []) (sym ends.1) (Appends-nil old));
+    stops = (part line never a b f ends.0, ends.1);
   }
-  line_fed line f g (Err NoMemory) a b old new before after spent never lasts ends = record {
-    rest = line ++ 10 ∷ [];
-    done = f.before;
-    mid = a;
-    told = [];
-    taken = taken_none f.before (line ++ 10 ∷ []) a;
-    stops = (part line never a b f ends.0, subst (λ (o : Option (List ℕ)). Appends old o []) (sym ends.1) (Appends-nil old));
-  }
-  line_fed line f g (Err End) a b old new before after spent never lasts ends = absurd lasts
-  line_fed line f g (Err ReadFault) a b old new before after spent never lasts ends = absurd lasts
-  line_fed line f g (Err Turns) a b old new before after spent never lasts ends = absurd lasts
+  line_fed line f g (Err End) a b old new spent never lasts ends = absurd lasts
+  line_fed line f g (Err ReadFault) a b old new spent never lasts ends = absurd lasts
+  line_fed line f g (Err Turns) a b old new spent never lasts ends = absurd lasts
 
   -- a byte that is kept, or for which memory lacks
-  pub pushed : (byte : ℕ) (line : List ℕ) (f g : Begun) (r : Result (Unit {0}) Operated) (a : Progress) (old : Option (List ℕ)) → g.before ≡ f.before
+  pub pushed : (byte : ℕ) (line : List ℕ) (f g : Begun) (r : Result (Unit {0}) Operated) (a : Progress) (old : Side) → g.before ≡ f.before
       → OnOk r ((l : List ℕ) → IsBegun f.bytes f.is_long l → IsBegun g.bytes g.is_long (l ++ byte ∷ [])) → IfErr r (λ (e : Operated). e ≡ NoMemory) → IsBegun f.bytes f.is_long line → Feeds x (byte ∷ []) r line f g a a old old
   pushed byte line f g (Ok t) a old same keeps lack is = byte_fed byte line f g a old same (keeps line is)
   pushed byte line f g (Err end) a old same keeps lack is = byte_lacks byte line f.before end a old lack
@@ -257,22 +241,20 @@ module _ (x : Context) where
   some_line : (bytes line : List ℕ) (is_long : Bool) → IsBegun bytes is_long line → bytes ≢ [] → line ≢ []
   some_line bytes line is_long is some = λ (e : line ≡ []). some (is.kept ∙ ap (take (line_most + 1)) e)
 
-  pub finish_none : (f : Begun) (line : List ℕ) (a : Progress) (old : Option (List ℕ)) (m n : ℕ) → IsBegun f.bytes f.is_long line → f.bytes ≡ [] → Finishes x End line f.before a a old old m n
-  finish_none f line a old m n is none = (
-    (is.no_end, subst (λ (l : List ℕ). EndsBy x (f.before + 1) l a a old old []) (sym (empty_line f.bytes line f.is_long is none)) (refl, Appends-nil old)),
-    λ e. absurd (cc e),
+  pub finish_none : (f : Begun) (line : List ℕ) (a : Progress) (old : Side) → IsBegun f.bytes f.is_long line → f.bytes ≡ [] → Finishes x End line f.before a a old old
+  finish_none f line a old is none = (
+    (is.no_end, subst (λ (l : List ℕ). EndsBy x (f.before + 1) l a a old old []) (sym (empty_line f.bytes line f.is_long is none)) (refl, refl)),
     λ e. absurd (cc e),
     λ e. absurd (cc e),
   )
 
-  finish_by : (f g : Begun) (line : List ℕ) (a b : Progress) (old new : Option (List ℕ)) → line ≢ [] → EndsLine x false line (Ok tt) f g a b old new → EndsBy x (f.before + 1) line a b old new []
+  finish_by : (f g : Begun) (line : List ℕ) (a b : Progress) (old new : Side) → line ≢ [] → EndsLine x false line (Ok tt) f g a b old new → EndsBy x (f.before + 1) line a b old new []
   finish_by f g [] a b old new some ends = absurd (some refl)
-  finish_by f g (c ∷ cs) a b old new some ends = (ends.0, ends.1, ends.2)
+  finish_by f g (c ∷ cs) a b old new some ends = (ends.0, ends.1, one_said ends.0 old new ends.2)
 
-  pub finish_some : (f g : Begun) (line : List ℕ) (a b : Progress) (old new : Option (List ℕ)) (m n : ℕ) → IsBegun f.bytes f.is_long line → f.bytes ≢ [] → EndsLine x false line (Ok tt) f g a b old new → Finishes x End line f.before a b old new m n
-  finish_some f g line a b old new m n is some ends = (
+  pub finish_some : (f g : Begun) (line : List ℕ) (a b : Progress) (old new : Side) → IsBegun f.bytes f.is_long line → f.bytes ≢ [] → EndsLine x false line (Ok tt) f g a b old new → Finishes x End line f.before a b old new
+  finish_some f g line a b old new is some ends = (
     (is.no_end, finish_by f g line a b old new (some_line f.bytes line f.is_long is some) ends),
-    λ e. absurd (cc e),
     λ e. absurd (cc e),
     λ e. absurd (cc e),
   )
@@ -281,34 +263,25 @@ module _ (x : Context) where
   last_left k line a b never some (inl e) = inl e
   last_left k line a b never some (inr cut) = inr (line, inr (tt, never, some, refl), cut)
 
-  pub finish_cut : (f g : Begun) (end : Operated) (line : List ℕ) (a b : Progress) (old new : Option (List ℕ)) (m n : ℕ) (spent : Option ℕ) → IsBegun f.bytes f.is_long line → f.bytes ≢ [] → Lasts (Err end) m n spent → EndsLine x false line (Err end) f g a b old new → Finishes x end line f.before a b old new m n
-  finish_cut f g WriteFault line a b old new m n spent is some lasts ends = (
-    (line, ends.0, inr (tt, is.no_end, some_line f.bytes line f.is_long is some, refl), ends.1, ends.2),
-    λ e. lasts.0,
+  pub finish_cut : (f g : Begun) (end : Operated) (line : List ℕ) (a b : Progress) (old new : Side) (spent : Option ℕ) → IsBegun f.bytes f.is_long line → f.bytes ≢ [] → Lasts (Err end) spent → EndsLine x false line (Err end) f g a b old new → Finishes x end line f.before a b old new
+  finish_cut f g (Spent t) line a b old new spent is some lasts ends = (
+    (last_left (f.before + 1) line a b is.no_end (some_line f.bytes line f.is_long is some) ends.0, ends.1),
     λ e. absurd (cc e),
     λ e. absurd (cc e),
   )
-  finish_cut f g (Spent t) line a b old new m n spent is some lasts ends = (
-    (last_left (f.before + 1) line a b is.no_end (some_line f.bytes line f.is_long is some) ends.0, subst (λ (o : Option (List ℕ)). Appends old o []) (sym ends.1) (Appends-nil old)),
-    λ e. absurd (cc e),
-    λ e. absurd (cc e),
-    λ e. absurd (cc e),
-  )
-  finish_cut f g NoMemory line a b old new m n spent is some lasts ends = (
-    (last_left (f.before + 1) line a b is.no_end (some_line f.bytes line f.is_long is some) ends.0, subst (λ (o : Option (List ℕ)). Appends old o []) (sym ends.1) (Appends-nil old)),
-    λ e. absurd (cc e),
+  finish_cut f g NoMemory line a b old new spent is some lasts ends = (
+    (last_left (f.before + 1) line a b is.no_end (some_line f.bytes line f.is_long is some) ends.0, ends.1),
     λ e. absurd (cc e),
     λ e. absurd (cc e),
   )
-  finish_cut f g End line a b old new m n spent is some lasts ends = absurd lasts
-  finish_cut f g ReadFault line a b old new m n spent is some lasts ends = absurd lasts
-  finish_cut f g Turns line a b old new m n spent is some lasts ends = absurd lasts
+  finish_cut f g End line a b old new spent is some lasts ends = absurd lasts
+  finish_cut f g ReadFault line a b old new spent is some lasts ends = absurd lasts
+  finish_cut f g Turns line a b old new spent is some lasts ends = absurd lasts
 
 -- an end that a line brings
-pub cuts_of : (end : Operated) (m n : ℕ) (spent : Option ℕ) → IsEndOf end spent → Cuts end m n spent
-cuts_of (Spent t) m n spent is = is
-cuts_of NoMemory m n spent is = is
-cuts_of End m n spent is = absurd is
-cuts_of ReadFault m n spent is = absurd is
-cuts_of WriteFault m n spent is = absurd is
-cuts_of Turns m n spent is = absurd is
+pub cuts_of : (end : Operated) (spent : Option ℕ) → IsEndOf end spent → Cuts end spent
+cuts_of (Spent t) spent is = is
+cuts_of NoMemory spent is = is
+cuts_of End spent is = absurd is
+cuts_of ReadFault spent is = absurd is
+cuts_of Turns spent is = absurd is

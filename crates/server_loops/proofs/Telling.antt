@@ -7,6 +7,7 @@ use Rattle.std.proofs.lemmas.Bool.{lt-ltb, le-ltb}
 use Rattle.plant_model.specs.declared.event.Event.{Event}
 use Rattle.plant_model.specs.declared.event.Event.TheVariants.{Tick}
 use Rattle.server_loops.specs.Desks.{Answer, Call, Desked, call, made_by, spent_by}
+use Rattle.network_links.specs.declared.rest.Rest.TheVariants.{Nothing}
 use Rattle.server_loops.specs.Serving.{BeginsWith, events, AreReadings, ticks, told_last, TellsTime}
 use Rattle.server_loops.specs.Steps.{IsTold}
 use Rattle.server_loops.specs.declared.desks.DeskRefused.TheVariants as desk
@@ -88,7 +89,7 @@ none_told d last = record {
 -- a Tick that was made, or that the desk was spent for
 tick_made : (made : List Call) (all : List Event) (e : Event) (before : Option ℕ) (answer : Answer) → ((t : ℕ) → before ≡ Some t → answer ≡ Err (desk.Spent t)) →
     MatchOption before (events made ≡ all) (λ t. BeginsWith all (events made)) →
-    MatchOption (spent_by answer) (events (made ++ made_by e answer) ≡ all ++ e ∷ []) (λ t. BeginsWith (all ++ e ∷ []) (events (made ++ made_by e answer)))
+    MatchOption (spent_by answer) (events (made ++ made_by e answer Nothing) ≡ all ++ e ∷ []) (λ t. BeginsWith (all ++ e ∷ []) (events (made ++ made_by e answer Nothing)))
 tick_made made all e None (Ok o) stays told = map-append (λ (c : Call). c.event) made (call e (Ok o) ∷ []) ∙ ap (λ (es : List Event). es ++ e ∷ []) told
 tick_made made all e None (Err (desk.Plant why)) stays told = map-append (λ (c : Call). c.event) made (call e (Err (desk.Plant why)) ∷ []) ∙ ap (λ (es : List Event). es ++ e ∷ []) told
 tick_made made all e None (Err (desk.Spent t)) stays told =
@@ -115,10 +116,10 @@ module _ (n top : ℕ) (old mid new : Desked) (last now : ℕ) (s : IsTelling n 
         told_is = told_more r 0 s.readings ∙ ap (then_told r) s.told_is ∙ ap (λ (b : Bool). cond b r top) rises ∙ sym is.1;
         below = omega (arith, is.1);
         now_told = λ some. is.1;
-        made = s.made ++ made_by (tick r) is.2.0;
-        calls = on old mid new s.made (made_by (tick r) is.2.0) s.calls is.2.1.calls;
-        told = subst (λ (o : Option ℕ). MatchOption o (events (s.made ++ made_by (tick r) is.2.0) ≡ ticks 0 (s.readings ++ r ∷ [])) (λ t. BeginsWith (ticks 0 (s.readings ++ r ∷ [])) (events (s.made ++ made_by (tick r) is.2.0)))) (sym is.2.1.spent)
-            (subst (λ (es : List Event). MatchOption (spent_by is.2.0) (events (s.made ++ made_by (tick r) is.2.0) ≡ es) (λ t. BeginsWith es (events (s.made ++ made_by (tick r) is.2.0)))) (sym more_is)
+        made = s.made ++ made_by (tick r) is.2.0 Nothing;
+        calls = on old mid new s.made (made_by (tick r) is.2.0 Nothing) s.calls is.2.1.calls;
+        told = subst (λ (o : Option ℕ). MatchOption o (events (s.made ++ made_by (tick r) is.2.0 Nothing) ≡ ticks 0 (s.readings ++ r ∷ [])) (λ t. BeginsWith (ticks 0 (s.readings ++ r ∷ [])) (events (s.made ++ made_by (tick r) is.2.0 Nothing)))) (sym is.2.1.spent)
+            (subst (λ (es : List Event). MatchOption (spent_by is.2.0) (events (s.made ++ made_by (tick r) is.2.0 Nothing) ≡ es) (λ t. BeginsWith es (events (s.made ++ made_by (tick r) is.2.0 Nothing)))) (sym more_is)
             (tick_made s.made (ticks 0 s.readings) (tick r) mid.spent is.2.0 is.2.1.stays s.told));
       }
   one_told result (inr is) =

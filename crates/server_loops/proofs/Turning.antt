@@ -1,18 +1,20 @@
 -- The parts of a turn.
-use Rattle.std.proofs.Common.{◌≡◌, inl, inr, ◌<◌, ◌+◌, ℕ, List, [], ◌∷◌, ◌++◌, None, Ok, Err, length, length-append, take, append_assoc, append-nil, arith, refl, sym, ◌∙◌, ap, subst, false, Bool, true}
+use Rattle.std.proofs.Common.{◌≡◌, ◌≢◌, inl, inr, ◌<◌, ◌+◌, ℕ, List, [], ◌∷◌, ◌++◌, None, Ok, Err, length, length-append, take, append_assoc, append-nil, arith, refl, sym, ◌∙◌, ap, subst, false, Bool, true}
 use Rattle.std.specs.List.{AllByRecursion}
 use Rattle.std.specs.declared.result.Result.{Result}
 use Rattle.dom_edge.specs.Streams.{Reading, Writing, IsRead}
 use Rattle.dom_edge.specs.declared.stream.Got.{Got}
 use Rattle.dom_edge.specs.declared.stream.Got.TheVariants as got
+use Rattle.network_links.specs.declared.rest.Rest.{Rest}
+use Rattle.network_links.specs.declared.rest.Rest.TheVariants.{Messages}
 use Rattle.plant_model.specs.declared.event.Event.TheVariants.{Feed, Take, Drain}
 use Rattle.plant_model.specs.declared.outcome.Outcome.{Outcome}
 use Rattle.plant_model.specs.declared.outcome.Outcome.TheVariants.{Drained}
 use Rattle.plant_model.specs.declared.outcome.Refused.{Refused}
 use Rattle.plant_model.specs.declared.outcome.Refused.TheVariants.{NoSuchPeer, NoMemory as NoRoom}
-use Rattle.server_loops.specs.Desks.{Call, Desked, Goes, call}
+use Rattle.server_loops.specs.Desks.{Call, Desked, Goes, Takes, call, call_telling}
 use Rattle.dom_edge.specs.Heeding.{Sides, sides}
-use Rattle.server_loops.specs.Sessions.{refused, IsAccepted, AreTakes, IsDrained, HasRead, IsFed, IsTurn, IsRefused}
+use Rattle.server_loops.specs.Sessions.{refused, AreTakes, IsDrained, HasRead, IsFed, IsLastTake, IsTake, IsTurn, IsRefused}
 use Rattle.server_loops.specs.Steps.{IsHandedOn, IsEndOf, IsCut, Drains, IsHanded, IsTaken, IsReceived, IsTurned, FailsToFeed, AreCutTakes}
 use Rattle.server_loops.specs.declared.desks.DeskRefused.{DeskRefused}
 use Rattle.server_loops.specs.declared.desks.DeskRefused.TheVariants as desk
@@ -82,7 +84,7 @@ drained_so peer holder old new r r1 w0 w1 bytes ended result same goes is =
 pub record IsTaking (peer n : ℕ) (old new : Desked) : Type 0 where
   pub made : List Call
   pub calls : new.calls ≡ old.calls ++ made
-  pub each : AllByRecursion (IsAccepted (Take peer)) made
+  pub each : AllByRecursion (IsTake peer Messages) made
   pub count : length made ≡ n
   pub spent : new.spent ≡ None
 
@@ -90,27 +92,32 @@ pub none_taken : (peer : ℕ) (d : Desked) → d.spent ≡ None → IsTaking pee
 none_taken peer d unspent = record { made = []; calls = sym (append-nil d.calls); each = tt; count = refl; spent = unspent }
 
 module _ (peer n : ℕ) (old mid new : Desked) (so_far : IsTaking peer n old mid) where
-  pub one_taken : (o : Outcome) → Goes mid new (Take peer) (Ok o) → IsTaking peer (n + 1) old new
-  one_taken o goes =
-      let last = call (Take peer) (Ok o) ∷ [] in
+  pub one_taken : Takes mid new peer (Ok Messages) → IsTaking peer (n + 1) old new
+  one_taken (o, goes) =
+      let last = call_telling (Take peer) (Ok o) Messages ∷ [] in
       record {
         made = so_far.made ++ last;
         calls = on old mid new so_far.made last so_far.calls goes.calls;
-        each = all_on (IsAccepted (Take peer)) so_far.made last so_far.each (record { event = refl; accepted = refl }, tt);
+        each = all_on (IsTake peer Messages) so_far.made last so_far.each (record { accepted = record { event = refl; accepted = refl }; told = refl }, tt);
         count = length-append so_far.made last ∙ ap (λ k. k + 1) so_far.count;
         spent = goes.spent;
       }
 
-  pub taken_until : (why : Refused) → n < 65536 → Goes mid new (Take peer) (Err (desk.Plant why)) → IsTaken peer (Ok tt) old new
-  taken_until why below goes =
-      let last = refused (Take peer) why ∷ [] in
-      record {
-        made = so_far.made ++ last;
-        calls = on old mid new so_far.made last so_far.calls goes.calls;
-        ends = (record { taken = so_far.made; each = so_far.each; last = last; ends = inr (why, omega (arith, so_far.count), refl); is = refl }, goes.spent);
-      }
+  ended_by : (c : Call) → n < 65536 → IsLastTake peer c → new.calls ≡ mid.calls ++ c ∷ [] → new.spent ≡ None → IsTaken peer (Ok tt) old new
+  ended_by c below is_last made spent = record {
+    made = so_far.made ++ c ∷ [];
+    calls = on old mid new so_far.made (c ∷ []) so_far.calls made;
+    ends = (record { taken = so_far.made; each = so_far.each; last = c ∷ []; ends = inr (omega (arith, so_far.count), (c, is_last, refl)); is = refl }, spent);
+  }
 
-  pub taken_cut : (t : ℕ) → n < 65536 → Goes mid new (Take peer) (Err (desk.Spent t)) → IsTaken peer (Err (Spent t)) old new
+  pub taken_last : (rest : Rest) → rest ≢ Messages → n < 65536 → Takes mid new peer (Ok rest) → IsTaken peer (Ok tt) old new
+  taken_last rest other below (o, goes) =
+      ended_by (call_telling (Take peer) (Ok o) rest) below (inr (rest, other, record { accepted = record { event = refl; accepted = refl }; told = refl })) goes.calls goes.spent
+
+  pub taken_until : (why : Refused) → n < 65536 → Takes mid new peer (Err (desk.Plant why)) → IsTaken peer (Ok tt) old new
+  taken_until why below goes = ended_by (refused (Take peer) why) below (inl (why, refl)) goes.calls goes.spent
+
+  pub taken_cut : (t : ℕ) → n < 65536 → Takes mid new peer (Err (desk.Spent t)) → IsTaken peer (Err (Spent t)) old new
   taken_cut t below goes = record {
     made = so_far.made;
     calls = goes.calls ∙ append-nil mid.calls ∙ so_far.calls;
@@ -187,7 +194,7 @@ module _ (peer : ℕ) (r0 r1 : Reading) (w : Writing) (into : List ℕ) (room : 
         IsCut peer holder end (first ∷ (feeds ++ made)) (sides r0 w0) (sides r1 w)
     cut_takes (Spent t) made are holder first w0 is =
         let last = refused (Take peer) NoSuchPeer ∷ [] in
-        let takes : AreTakes peer (made ++ last) = record { taken = made; each = are.0; last = last; ends = inr (NoSuchPeer, are.1, refl); is = refl } in
+        let takes : AreTakes peer (made ++ last) = record { taken = made; each = are.0; last = last; ends = inr (are.1, (refused (Take peer) NoSuchPeer, inl (NoSuchPeer, refl), refl)); is = refl } in
         (last, refl, inr (whole holder first w0 (made ++ last) ((first ∷ (feeds ++ made)) ++ last) is takes (ap (λ (cs : List Call). first ∷ cs) (append_assoc feeds made last))))
     cut_takes (Lost why) made never holder first w0 is = absurd never
     cut_takes NoMemory made never holder first w0 is = absurd never

@@ -1,4 +1,4 @@
--- What a bench is asked and answers, and what it stands for.
+-- The calls of a bench with their answers, and the state of a bench.
 use Rattle.std.specs.Prelude.{◌≡◌, ℕ, List, [], ◌∷◌, ◌++◌, All, Contains, None, Some, Ok}
 use Rattle.std.specs.Arc.{arc_value}
 use Rattle.std.specs.declared.option.Option.{Option}

@@ -1,4 +1,4 @@
--- What a chart is asked and answers, and what it stands for.
+-- The calls of a chart with their answers, and the state of a chart.
 use Rattle.std.specs.Prelude.{◌≡◌, ℕ, List, [], ◌∷◌, ◌++◌, None, Some, Ok, Err}
 use Rattle.std.specs.declared.option.Option.{Option}
 use Rattle.std.specs.declared.result.Result.{Result}

@@ -1,4 +1,4 @@
--- What an operator's lines do, and what is said of them.
+-- What an operator's lines do, and the answers to them.
 use Rattle.std.specs.Prelude.{◌≡◌, ◌≢◌, ◌⊎◌, ◌≤◌, ◌+◌, ◌&&◌, ℕ, Bool, true, false, nat_lt, codes, List, [], ◌∷◌, ◌++◌, length, map, All, MatchBool, Result, Ok, Err, Some, None, if◌then◌else◌}
 use Rattle.std.specs.List.{flat_map}
 use Rattle.std.specs.declared.option.Option.{Option}
@@ -30,7 +30,7 @@ use Rattle.ted_watch.specs.Published.{generation_of, last_of}
 use Rattle.server_loops.specs.Charts.{Call, Charted, Current, Did, Mapped}
 use Rattle.server_loops.specs.Texts.{bad_line_text, bad_network_text, read_fault_text, too_large_text}
 use Rattle.server_loops.specs.declared.operating.Operated.{Operated}
-use Rattle.server_loops.specs.declared.operating.Operated.TheVariants.{End, ReadFault, WriteFault, Turns, Spent, NoMemory}
+use Rattle.server_loops.specs.declared.operating.Operated.TheVariants.{End, ReadFault, Turns, Spent, NoMemory}
 
 -- how many bytes a line may have
 abbrev pub line_most : ℕ
@@ -192,11 +192,30 @@ pub record IsCut (x : Context) (number : ℕ) (text : List ℕ) (a b : Progress)
   pub does : Does x number text a b work
   pub part : IsPartOf work a.past b.past
 
--- lines one after the other, the first of which has this number
-abbrev pub AreDone : Context → ℕ → List (List ℕ) → Progress → Progress → List ℕ → Type 0
+-- lines one after the other, the first of which has this number, and what is said of each
+abbrev pub AreDone : Context → ℕ → List (List ℕ) → Progress → Progress → List (List ℕ) → Type 0
 AreDone x number [] a b told = (b ≡ a) × (told ≡ [])
 AreDone x number (text ∷ texts) a b told =
-    (mid : Progress) × (first : List ℕ) × (later : List ℕ) × IsDone x number text a mid first × AreDone x (number + 1) texts mid b later × (told ≡ first ++ later)
+    (mid : Progress) × (first : List ℕ) × (later : List (List ℕ)) × IsDone x number text a mid first × AreDone x (number + 1) texts mid b later × (told ≡ first ∷ later)
+
+-- ---- what is said of lines, at the output
+
+-- the bytes that are left of an input, or that were written to an output, where they are told; and how often it failed
+pub record Side : Type 0 where
+  pub bytes : Option (List ℕ)
+  pub faults : ℕ
+
+abbrev pub side : Option (List ℕ) → ℕ → Side
+side bytes faults = record { bytes = bytes; faults = faults }
+
+-- it is written; or a first part of it is, and then writing failed
+abbrev pub IsSaid : List ℕ → Side → Side → Type 0
+IsSaid text old new = Appends old.bytes new.bytes text ⊎ (AppendsSome old.bytes new.bytes text × Rose old.faults new.faults)
+
+-- the same of texts, one behind the other
+abbrev pub AreSaid : List (List ℕ) → Side → Side → Type 0
+AreSaid [] old new = new ≡ old
+AreSaid (text ∷ texts) old new = (mid : Side) × IsSaid text old mid × AreSaid texts mid new
 
 -- ---- all of it
 
@@ -208,7 +227,7 @@ abbrev pub ended : List ℕ → List ℕ
 ended line = line ++ 10 ∷ []
 
 -- The bytes are lines and a rest. The lines are done one after the other, less the CR before their LF; so many lines were done before and after.
-pub record AreTaken (x : Context) (before after : ℕ) (bytes rest : List ℕ) (a b : Progress) (told : List ℕ) : Type 0 where
+pub record AreTaken (x : Context) (before after : ℕ) (bytes rest : List ℕ) (a b : Progress) (told : List (List ℕ)) : Type 0 where
   pub whole : List (List ℕ)
   pub each : All HasNoEnd whole
   pub is : bytes ≡ flat_map ended whole ++ rest
@@ -222,31 +241,21 @@ IsNext IsLast rest text =
     ⊎ (IsLast × HasNoEnd rest × (rest ≢ []) × (text ≡ rest))
 
 -- bytes behind the last LF are a line, and it is done
-abbrev pub EndsBy : Context → ℕ → List ℕ → Progress → Progress → Option (List ℕ) → Option (List ℕ) → List ℕ → Type 0
-EndsBy x number [] a b old new told = (b ≡ a) × Appends old new told
-EndsBy x number (c ∷ cs) a b old new told = (last : List ℕ) × IsDone x number (c ∷ cs) a b last × Appends old new (told ++ last)
+abbrev pub EndsBy : Context → ℕ → List ℕ → Progress → Progress → Side → Side → List (List ℕ) → Type 0
+EndsBy x number [] a b old new told = (b ≡ a) × AreSaid told old new
+EndsBy x number (c ∷ cs) a b old new told = (last : List ℕ) × IsDone x number (c ∷ cs) a b last × AreSaid (told ++ last ∷ []) old new
 
 -- nothing more is done, or a part of what the next line asks for
 abbrev pub IsLeft : Context → ℕ → Type 0 → List ℕ → Progress → Progress → Type 0
 IsLeft x number IsLast rest a b = (b.past ≡ a.past) ⊎ ((text : List ℕ) × IsNext IsLast rest text × IsCut x number text a b)
 
--- How it stops by an end behind the lines that are done, of which this is said: all of what is said is written, but where writing fails.
-abbrev pub Stops : Context → ℕ → Operated → Type 0 → List ℕ → Progress → Progress → Option (List ℕ) → Option (List ℕ) → List ℕ → Type 0
+-- How it stops by an end behind the lines that are done, of which this is said.
+abbrev pub Stops : Context → ℕ → Operated → Type 0 → List ℕ → Progress → Progress → Side → Side → List (List ℕ) → Type 0
 Stops x number End IsLast rest a b old new told = HasNoEnd rest × EndsBy x number rest a b old new told
-Stops x number ReadFault IsLast rest a b old new told = HasNoEnd rest × (b ≡ a) × Appends old new told
-Stops x number Turns IsLast rest a b old new told = HasNoEnd rest × (b ≡ a) × Appends old new told
-Stops x number WriteFault IsLast rest a b old new told =
-    (text : List ℕ) × (last : List ℕ) × IsNext IsLast rest text × IsDone x number text a b last × AppendsSome old new (told ++ last)
-Stops x number (Spent t) IsLast rest a b old new told = IsLeft x number IsLast rest a b × Appends old new told
-Stops x number NoMemory IsLast rest a b old new told = IsLeft x number IsLast rest a b × Appends old new told
-
--- the bytes that are left of an input, or that were written to an output, where they are told; and how often it failed
-pub record Side : Type 0 where
-  pub bytes : Option (List ℕ)
-  pub faults : ℕ
-
-abbrev pub side : Option (List ℕ) → ℕ → Side
-side bytes faults = record { bytes = bytes; faults = faults }
+Stops x number ReadFault IsLast rest a b old new told = HasNoEnd rest × (b ≡ a) × AreSaid told old new
+Stops x number Turns IsLast rest a b old new told = HasNoEnd rest × (b ≡ a) × AreSaid told old new
+Stops x number (Spent t) IsLast rest a b old new told = IsLeft x number IsLast rest a b × AreSaid told old new
+Stops x number NoMemory IsLast rest a b old new told = IsLeft x number IsLast rest a b × AreSaid told old new
 
 -- both of them
 pub record Sides : Type 0 where
@@ -265,19 +274,18 @@ IsReadOut (Some bytes) new = new ≡ Some []
 abbrev pub HasCause : ℕ → ℕ → Operated → Sides → Sides → Type 0
 HasCause turns taken End before after = IsReadOut before.input.bytes after.input.bytes
 HasCause turns taken ReadFault before after = Rose before.input.faults after.input.faults
-HasCause turns taken WriteFault before after = Rose before.output.faults after.output.faults
 HasCause turns taken Turns before after = turns ≤ taken
 HasCause turns taken (Spent t) before after = Unit {0}
 HasCause turns taken NoMemory before after = Unit {0}
 
--- The bytes that were taken from the input are lines and a rest. The lines are done in order, and what is said of them is written.
+-- The bytes that were taken from the input are lines and a rest. The lines are done in order, and what is said of each is written, or its writing fails.
 pub record Operates (x : Context) (turns : ℕ) (end : Operated) (old new : Progress) (before after : Sides) : Type 0 where
   pub taken : List ℕ
   pub took : Consumes before.input.bytes after.input.bytes taken
   pub rest : List ℕ
   pub done : ℕ
   pub mid : Progress
-  pub told : List ℕ
+  pub told : List (List ℕ)
   pub lines : AreTaken x 0 done taken rest old mid told
-  pub stops : Stops x (done + 1) end (IsReadOut before.input.bytes after.input.bytes) rest mid new before.output.bytes after.output.bytes told
+  pub stops : Stops x (done + 1) end (IsReadOut before.input.bytes after.input.bytes) rest mid new before.output after.output told
   pub cause : HasCause turns (length taken) end before after

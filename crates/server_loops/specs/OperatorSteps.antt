@@ -1,12 +1,11 @@
--- The parts of a line, and of what comes in.
+-- The parts of serving an operator's line, and of reading the input.
 use Rattle.std.specs.Prelude.{◌≡◌, ◌≢◌, ◌⊎◌, ◌≤◌, ◌+◌, ℕ, Bool, true, false, nat_lt, List, [], ◌∷◌, ◌++◌, length, take, Result, Ok, Err, Some, None, if◌then◌else◌}
 use Rattle.std.specs.declared.option.Option.{Option}
 use Rattle.std.specs.Str.Lines.{strip_carriage_return}
-use Rattle.std.specs.Io.KnownBytes.{Appends, Consumes}
+use Rattle.std.specs.Io.KnownBytes.{Consumes}
 use Rattle.dom_base.specs.declared.names.As.{As}
 use Rattle.dom_edge.specs.Causes.{Rose}
 use Rattle.dom_edge.specs.Stores.{Files, HasFile, IsLongFile}
-use Rattle.dom_edge.specs.Whole.{AppendsSome}
 use Rattle.te_deltas.specs.ChangeText.{change_file_most}
 use Rattle.network_files.specs.declared.error.FileError.{FileError}
 use Rattle.network_files.specs.declared.error.FileError.TheVariants.{BadFile}
@@ -19,10 +18,10 @@ use Rattle.plant_model.specs.declared.outcome.Outcome.{Outcome}
 use Rattle.plant_model.specs.declared.outcome.Refused.{Refused}
 use Rattle.ted_watch.specs.declared.shown.Shown.{Shown}
 use Rattle.server_loops.specs.Charts.{Call, Charted, Did, Mapped}
-use Rattle.server_loops.specs.Operating.{AreTaken, ChangesFile, Context, HasCause, HasNoEnd, IsCut, IsDone, IsEndOf, IsPartOf, IsReadOut, LoadsFile, Past, Says, Sides, Progress, Stops, WithFile, Work, line_most}
+use Rattle.server_loops.specs.Operating.{AreSaid, AreTaken, ChangesFile, Context, HasCause, HasNoEnd, IsCut, IsDone, IsEndOf, IsPartOf, IsReadOut, IsSaid, LoadsFile, Past, Says, Side, Sides, Progress, Stops, WithFile, Work, line_most}
 use Rattle.server_loops.specs.Texts.{bad_line_text, bad_network_text, read_fault_text, too_large_text}
 use Rattle.server_loops.specs.declared.operating.Operated.{Operated}
-use Rattle.server_loops.specs.declared.operating.Operated.TheVariants.{ReadFault, WriteFault, Turns, Spent, NoMemory}
+use Rattle.server_loops.specs.declared.operating.Operated.TheVariants.{ReadFault, Turns, Spent, NoMemory}
 
 -- ---- calls of the chart
 
@@ -120,11 +119,10 @@ text_of has_end line = if has_end then strip_carriage_return line else line
 -- ---- pieces
 
 -- why bytes that came may end it
-abbrev pub Cuts : Operated → ℕ → ℕ → Option ℕ → Type 0
-Cuts WriteFault before after spent = Rose before after × (spent ≡ None)
-Cuts (Spent t) before after spent = spent ≡ Some t
-Cuts NoMemory before after spent = spent ≡ None
-Cuts end before after spent = ⊥
+abbrev pub Cuts : Operated → Option ℕ → Type 0
+Cuts (Spent t) spent = spent ≡ Some t
+Cuts NoMemory spent = spent ≡ None
+Cuts end spent = ⊥
 
 -- a line that was begun: which line it is, and what is kept of it
 pub record Begun : Type 0 where
@@ -136,38 +134,36 @@ abbrev pub begun : ℕ → List ℕ → Bool → Begun
 begun before bytes is_long = record { before = before; bytes = bytes; is_long = is_long }
 
 -- further bytes came behind a line that was begun, and the lines that end in them are done
-pub record TakesOn (x : Context) (piece line : List ℕ) (p q : Begun) (a b : Progress) (old new : Option (List ℕ)) : Type 0 where
+pub record TakesOn (x : Context) (piece line : List ℕ) (p q : Begun) (a b : Progress) (old new : Side) : Type 0 where
   pub left : List ℕ
   pub is_begun : IsBegun q.bytes q.is_long left
-  pub told : List ℕ
+  pub told : List (List ℕ)
   pub taken : AreTaken x p.before q.before (line ++ piece) left a b told
-  pub written : Appends old new told
+  pub said : AreSaid told old new
 
 -- they end it
-pub record CutsOff (x : Context) (end : Operated) (IsLast : Type 0) (piece line : List ℕ) (before : ℕ) (a b : Progress) (old new : Option (List ℕ)) : Type 0 where
+pub record CutsOff (x : Context) (end : Operated) (IsLast : Type 0) (piece line : List ℕ) (before : ℕ) (a b : Progress) (old new : Side) : Type 0 where
   pub rest : List ℕ
   pub done : ℕ
   pub mid : Progress
-  pub told : List ℕ
+  pub told : List (List ℕ)
   pub taken : AreTaken x before done (line ++ piece) rest a mid told
   pub stops : Stops x (done + 1) end IsLast rest mid b old new told
 
-abbrev pub Feeds : Context → List ℕ → Result (Unit {0}) Operated → List ℕ → Begun → Begun → Progress → Progress → Option (List ℕ) → Option (List ℕ) → Type 0
+abbrev pub Feeds : Context → List ℕ → Result (Unit {0}) Operated → List ℕ → Begun → Begun → Progress → Progress → Side → Side → Type 0
 Feeds x piece (Ok u) line p q a b old new = TakesOn x piece line p q a b old new
 Feeds x piece (Err end) line p q a b old new = CutsOff x end ⊥ piece line p.before a b old new
 
 -- the line that was begun ends, and a new one begins
-abbrev pub EndsLine : Context → Bool → List ℕ → Result (Unit {0}) Operated → Begun → Begun → Progress → Progress → Option (List ℕ) → Option (List ℕ) → Type 0
+abbrev pub EndsLine : Context → Bool → List ℕ → Result (Unit {0}) Operated → Begun → Begun → Progress → Progress → Side → Side → Type 0
 EndsLine x has_end line (Ok u) p q a b old new =
-    (told : List ℕ) × IsDone x (p.before + 1) (text_of has_end line) a b told × Appends old new told × (q.before ≡ p.before + 1) × IsBegun q.bytes q.is_long []
-EndsLine x has_end line (Err WriteFault) p q a b old new =
-    (told : List ℕ) × IsDone x (p.before + 1) (text_of has_end line) a b told × AppendsSome old new told
+    (told : List ℕ) × IsDone x (p.before + 1) (text_of has_end line) a b told × IsSaid told old new × (q.before ≡ p.before + 1) × IsBegun q.bytes q.is_long []
 EndsLine x has_end line (Err end) p q a b old new = ((b.past ≡ a.past) ⊎ IsCut x (p.before + 1) (text_of has_end line) a b) × (new ≡ old)
 
--- the count of faults, and the chart
-abbrev pub Lasts : Result (Unit {0}) Operated → ℕ → ℕ → Option ℕ → Type 0
-Lasts (Ok u) before after spent = (before ≤ after) × (spent ≡ None)
-Lasts (Err end) before after spent = Cuts end before after spent
+-- the chart behind them
+abbrev pub Lasts : Result (Unit {0}) Operated → Option ℕ → Type 0
+Lasts (Ok u) spent = spent ≡ None
+Lasts (Err end) spent = Cuts end spent
 
 -- ---- turns
 
@@ -176,15 +172,14 @@ pub record IsTurn (x : Context) (line : List ℕ) (p q : Begun) (a b : Progress)
   pub piece : List ℕ
   pub took : Consumes before.input.bytes after.input.bytes piece
   pub some : 1 ≤ length piece
-  pub takes : TakesOn x piece line p q a b before.output.bytes after.output.bytes
+  pub takes : TakesOn x piece line p q a b before.output after.output
   pub read : before.input.faults ≤ after.input.faults
-  pub wrote : before.output.faults ≤ after.output.faults
 
 -- a turn that ends it
 pub record IsLastTurn (x : Context) (end : Operated) (line : List ℕ) (number : ℕ) (a b : Progress) (before after : Sides) : Type 0 where
   pub piece : List ℕ
   pub took : Consumes before.input.bytes after.input.bytes piece
-  pub cuts : CutsOff x end (IsReadOut before.input.bytes after.input.bytes) piece line number a b before.output.bytes after.output.bytes
+  pub cuts : CutsOff x end (IsReadOut before.input.bytes after.input.bytes) piece line number a b before.output after.output
   pub ends : end ≢ Turns
   pub cause : HasCause 0 0 end before after
 
@@ -193,9 +188,8 @@ IsTurned x (Ok u) line p q a b before after = IsTurn x line p q a b before after
 IsTurned x (Err end) line p q a b before after = IsLastTurn x end line p.before a b before after
 
 -- the input ended behind a line that was begun
-abbrev pub Finishes : Context → Operated → List ℕ → ℕ → Progress → Progress → Option (List ℕ) → Option (List ℕ) → ℕ → ℕ → Type 0
-Finishes x end line before a b old new faults now =
-    Stops x (before + 1) end (Unit {0}) line a b old new [] × (end ≡ WriteFault → Rose faults now) × (end ≢ ReadFault) × (end ≢ Turns)
+abbrev pub Finishes : Context → Operated → List ℕ → ℕ → Progress → Progress → Side → Side → Type 0
+Finishes x end line before a b old new = Stops x (before + 1) end (Unit {0}) line a b old new [] × (end ≢ ReadFault) × (end ≢ Turns)
 
 -- the chart after an end
 abbrev pub Leaves : Operated → Option ℕ → Type 0

@@ -9,6 +9,8 @@ use Rattle.dom_edge.specs.Streams.{Reading, Writing, IsRead}
 use Rattle.dom_edge.specs.Whole.{AppendsSome}
 use Rattle.dom_edge.specs.declared.stream.Got.{Got}
 use Rattle.dom_edge.specs.declared.stream.Got.TheVariants as got
+use Rattle.network_links.specs.declared.rest.Rest.{Rest}
+use Rattle.network_links.specs.declared.rest.Rest.TheVariants.{Messages}
 use Rattle.plant_model.specs.declared.event.Event.{Event}
 use Rattle.plant_model.specs.declared.event.Event.TheVariants.{Open, Shut, Feed, Take, Drain}
 use Rattle.plant_model.specs.declared.outcome.Outcome.{Outcome}
@@ -88,12 +90,24 @@ IsFed peer got.Quiet into calls = calls ≡ []
 IsFed peer got.End into calls = ⊥
 IsFed peer got.Failed into calls = ⊥
 
--- Takes until one is refused, but at most 65,536
+-- a Take that was accepted, and told that so much is left to do for its peer
+pub record IsTake (peer : ℕ) (rest : Rest) (c : Call) : Type 0 where
+  pub accepted : IsAccepted (Take peer) c
+  pub told : c.rest ≡ rest
+
+-- it was refused, or it told that no message waits or that what waits for the peer goes first
+abbrev pub IsLastTake : ℕ → Call → Type 0
+IsLastTake peer c = ((why : Refused) × (c ≡ refused (Take peer) why)) ⊎ ((rest : Rest) × (rest ≢ Messages) × IsTake peer rest c)
+
+abbrev pub EndsTakes : ℕ → ℕ → List Call → Type 0
+EndsTakes peer count last = ((count ≡ 65536) × (last ≡ [])) ⊎ ((count < 65536) × ((c : Call) × IsLastTake peer c × (last ≡ c ∷ [])))
+
+-- Takes, each but the last of which told that another message waits; at most 65,536
 pub record AreTakes (peer : ℕ) (calls : List Call) : Type 0 where
   pub taken : List Call
-  pub each : AllByRecursion (IsAccepted (Take peer)) taken
+  pub each : AllByRecursion (IsTake peer Messages) taken
   pub last : List Call
-  pub ends : ((length taken ≡ 65536) × (last ≡ [])) ⊎ ((why : Refused) × (length taken < 65536) × (last ≡ refused (Take peer) why ∷ []))
+  pub ends : EndsTakes peer (length taken) last
   pub is : calls ≡ taken ++ last
 
 -- a whole turn: one Drain, one read, one Feed of what it gave, and Takes

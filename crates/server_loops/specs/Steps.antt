@@ -8,11 +8,12 @@ use Rattle.dom_edge.specs.Causes.{Rose}
 use Rattle.dom_edge.specs.Heeding.{Sides, sides}
 use Rattle.dom_edge.specs.Streams.{Writing}
 use Rattle.dom_edge.specs.Whole.{AppendsSome}
+use Rattle.network_links.specs.declared.rest.Rest.TheVariants.{Messages}
 use Rattle.plant_model.specs.declared.event.Event.TheVariants.{Shut, Feed, Take, Carry, Tick}
 use Rattle.plant_model.specs.declared.outcome.Outcome.{Outcome}
 use Rattle.plant_model.specs.declared.outcome.Refused.TheVariants.{NoSuchPeer, NoMemory as NoRoom}
 use Rattle.server_loops.specs.Desks.{Answer, Call, Desked, Goes, call}
-use Rattle.server_loops.specs.Sessions.{drained, joined, IsNone, refused, IsAccepted, AreTakes, IsDrained, IsTurn, IsRefused, AreTurns, IsCount, Last}
+use Rattle.server_loops.specs.Sessions.{drained, joined, IsNone, refused, IsAccepted, IsTake, AreTakes, IsDrained, IsTurn, IsRefused, AreTurns, IsCount, Last}
 use Rattle.server_loops.specs.Serving.{BeginsWith, Heard, calls_of, carries, events, links_of, IsCarryOf, IsHost}
 use Rattle.dom_base.specs.declared.names.As.{As}
 use Rattle.server_loops.specs.declared.desks.DeskRefused.{DeskRefused}
@@ -80,7 +81,7 @@ IsHanded peer piece result old new = IsMade (IsOneFeed peer piece) (FailsToFeed 
 
 -- Takes that the desk was spent in
 abbrev pub AreCutTakes : ℕ → Ended → List Call → Type 0
-AreCutTakes peer (Spent t) made = AllByRecursion (IsAccepted (Take peer)) made × (length made < 65536)
+AreCutTakes peer (Spent t) made = AllByRecursion (IsTake peer Messages) made × (length made < 65536)
 AreCutTakes peer end made = ⊥
 
 abbrev pub IsTaken : ℕ → Result (Unit {0}) Ended → Desked → Desked → Type 0

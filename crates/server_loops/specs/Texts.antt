@@ -1,4 +1,4 @@
--- What is said of a line: its number, and what came of it.
+-- The answer to an operator's line: its number, and the outcome.
 use Rattle.std.specs.Prelude.{ℕ, List, [], ◌∷◌, ◌++◌, codes, decimal}
 use Rattle.te_links.specs.declared.fault.TopoFault.{TopoFault}
 use Rattle.te_links.specs.declared.fault.TopoFault.TheVariants as topo

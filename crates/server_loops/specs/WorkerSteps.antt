@@ -1,4 +1,4 @@
--- The parts of a turn.
+-- The parts of a worker's turn.
 use Rattle.std.specs.Prelude.{◌≡◌, ◌⊎◌, ℕ, List, [], ◌∷◌, ◌++◌, All, Contains, None, Some, Ok, MatchResult, option_to_list}
 use Rattle.std.specs.Arc.{arc_value}
 use Rattle.std.specs.declared.option.Option.{Option}

@@ -1,7 +1,8 @@
 //! Where events go.
 ghost use Rattle.std.specs.Prelude.{◌≡◌};
-ghost use Rattle.server_loops.specs.Desks.{Desked, Goes, IsOwnLoad};
+ghost use Rattle.server_loops.specs.Desks.{Desked, Goes, IsOwnLoad, Takes};
 
+use network_links::Rest;
 use plant_model::{Event, Outcome, Refused};
 
 /// Why a desk refused an event: what it goes to refused it, or the desk is spent.
@@ -20,6 +21,10 @@ pub trait Desk {
     fn act(&mut self, event: Event) -> Result<Outcome, DeskRefused>
         requires { IsOwnLoad event }
         ensures { Goes (desked self.old) (desked self.new) event result };
+
+    /// Takes the first message of an outside peer's inbox, unless the desk is spent, and tells what is left to do for the peer.
+    fn take(&mut self, peer: u32) -> Result<Rest, DeskRefused>
+        ensures { Takes (desked self.old) (desked self.new) peer result };
 
     /// The number that the first event that was refused as spent gave.
     fn spent(&self) -> Option<u64>

@@ -1,4 +1,4 @@
-//! What the threads of a server do, over whatever does events, without threads: a session's loop over a desk and a link, a port that serves
+//! The loops of a server's threads, over any network; no thread is started here. A session's loop over a desk and a link, a port that serves
 //! one connection after the other, what carries messages between elements and what tells the time; a worker that takes ready jobs from a bench,
 //! solves them outside every call of the bench, and hands the solutions back; and the lines of an operator, who loads topologies into a network
 //! that runs. No call here waits but by what it is handed.
@@ -34,6 +34,7 @@ pub use charts::Chart;
 pub use desks::{Desk, DeskRefused};
 pub use gates::Gate;
 pub use guides::Guide;
+pub use network_links::Rest;
 pub use operating::{Operated, operate};
 pub use plant_model as model;
 pub use port::{Ran, serve_port};

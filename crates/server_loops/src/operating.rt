@@ -9,19 +9,17 @@ use crate::charts::Chart;
 use crate::lines::Begun;
 use crate::taking::{end_line, take_piece};
 use dom_base::NoMemory;
-use dom_edge::{Piece, Sink, Source, Store, WriteFailed};
+use dom_edge::{Piece, Sink, Source, Store};
 use plant_text::Network;
 use std::alloc::Global;
 use std::sync::Wait;
 use ted_watch::Publisher;
 
-/// How it ended: the input ended, reading or writing failed, all turns were made, the chart was spent, or there was no
-/// memory.
+/// How it ended: the input ended, reading failed, all turns were made, the chart was spent, or there was no memory.
 #[derive(Clone, Copy, Debug, PartialEq, Eq)]
 pub enum Operated {
     End,
     ReadFault,
-    WriteFault,
     Turns,
     Spent(u64),
     NoMemory,
@@ -37,16 +35,6 @@ impl From<NoMemory> for Operated {
     }
 }
 
-impl From<WriteFailed> for Operated {
-    ghost use Rattle.server_loops.specs.declared.operating.Operated.TheVariants.{WriteFault};
-
-    ghost from_gives = { λ _ e. e ≡ WriteFault };
-
-    fn from(_: WriteFailed) -> Self {
-        Operated::WriteFault
-    }
-}
-
 // The input ended: bytes behind the last line end are a line.
 fn finish<T: Store, K: Sink, D: Chart, R: Wait + Drop>(
     alloc: Global,
@@ -59,7 +47,7 @@ fn finish<T: Store, K: Sink, D: Chart, R: Wait + Drop>(
 ) -> Operated
     requires elements { AreOfElements network.now (published publisher.old) }
     requires fresh { (D.charted desk.old).spent ≡ None }
-    ensures ends { (line : List ℕ) → IsBegun begun.old.bytes.items begun.old.is_long line → Finishes (context network.now (T.files store.old)) result line begun.old.before (progress (D.charted desk.old) (published publisher.old) (T.faults store.old) (T.failed_at store.old)) (progress (D.charted desk.new) (published publisher.new) (T.faults store.new) (T.failed_at store.new)) (K.written out.old) (K.written out.new) (K.faults out.old) (K.faults out.new) }
+    ensures ends { (line : List ℕ) → IsBegun begun.old.bytes.items begun.old.is_long line → Finishes (context network.now (T.files store.old)) result line begun.old.before (progress (D.charted desk.old) (published publisher.old) (T.faults store.old) (T.failed_at store.old)) (progress (D.charted desk.new) (published publisher.new) (T.faults store.new) (T.failed_at store.new)) (side (K.written out.old) (K.faults out.old)) (side (K.written out.new) (K.faults out.new)) }
     ensures leaves { Leaves result (D.charted desk.new).spent }
     ensures elements { AreOfElements network.now (published publisher.new) }
     ensures list { list_of publisher.new ≡ list_of publisher.old }
@@ -155,8 +143,8 @@ fn run<T: Store, I: Source, K: Sink, D: Chart, R: Wait + Drop>(
 /// AS FILE` the current one with the changes of a file. What came of each is written under its number. After a load of an
 /// element that was accepted its current topology is shown to watchers, where it is newer. In each turn it reads once.
 ///
-/// A load that lacks memory in the network is told as such, and the next line is read; so is a file that is refused. A
-/// chart that is spent ends it at once.
+/// A load that lacks memory in the network is told as such, and the next line is read; so is a file that is refused. Where
+/// what is said of a line can't be written, the next line is read all the same. A chart that is spent ends it at once.
 pub fn operate<T: Store, I: Source, K: Sink, D: Chart, R: Wait + Drop>(
     alloc: Global,
     desk: &mut D,

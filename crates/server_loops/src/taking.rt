@@ -1,7 +1,7 @@
 //! Bytes that come in are cut into lines, and each line is done.
 ghost use Rattle.std.specs.Prelude.{◌≡◌, ◌∷◌, [], ℕ, List, None};
 ghost use Rattle.ted_watch.specs.Watch.{list_of, published};
-ghost use Rattle.server_loops.specs.Operating.{AreOfElements, context, progress};
+ghost use Rattle.server_loops.specs.Operating.{AreOfElements, IsSaid, context, progress, side};
 ghost use Rattle.server_loops.specs.OperatorSteps.{EndsLine, Feeds, IsBegun, Lasts, begun as begun_of};
 
 use crate::charts::Chart;
@@ -13,7 +13,14 @@ use std::alloc::Global;
 use std::sync::Wait;
 use ted_watch::Publisher;
 
-/// The line that was begun ends: it is done, and what is said of it is written.
+// Writes what is said of a line. Where that fails, what is left of it is dropped.
+fn say<K: Sink>(out: &mut K, text: &[u8])
+    ensures { IsSaid text.now (side (K.written out.old) (K.faults out.old)) (side (K.written out.new) (K.faults out.new)) }
+{
+    let _lost = write_all(out, text);
+}
+
+/// The line that was begun ends: it is done, and what is said of it is written, or that fails.
 pub(crate) fn end_line<T: Store, K: Sink, D: Chart, R: Wait + Drop>(
     alloc: Global,
     desk: &mut D,
@@ -26,8 +33,8 @@ pub(crate) fn end_line<T: Store, K: Sink, D: Chart, R: Wait + Drop>(
 ) -> Result<(), Operated>
     requires elements { AreOfElements network.now (published publisher.old) }
     requires fresh { (D.charted desk.old).spent ≡ None }
-    ensures ends { (line : List ℕ) → IsBegun begun.old.bytes.items begun.old.is_long line → EndsLine (context network.now (T.files store.old)) has_end line result (begun_of begun.old.before begun.old.bytes.items begun.old.is_long) (begun_of begun.new.before begun.new.bytes.items begun.new.is_long) (progress (D.charted desk.old) (published publisher.old) (T.faults store.old) (T.failed_at store.old)) (progress (D.charted desk.new) (published publisher.new) (T.faults store.new) (T.failed_at store.new)) (K.written out.old) (K.written out.new) }
-    ensures lasts { Lasts result (K.faults out.old) (K.faults out.new) (D.charted desk.new).spent }
+    ensures ends { (line : List ℕ) → IsBegun begun.old.bytes.items begun.old.is_long line → EndsLine (context network.now (T.files store.old)) has_end line result (begun_of begun.old.before begun.old.bytes.items begun.old.is_long) (begun_of begun.new.before begun.new.bytes.items begun.new.is_long) (progress (D.charted desk.old) (published publisher.old) (T.faults store.old) (T.failed_at store.old)) (progress (D.charted desk.new) (published publisher.new) (T.faults store.new) (T.failed_at store.new)) (side (K.written out.old) (K.faults out.old)) (side (K.written out.new) (K.faults out.new)) }
+    ensures lasts { Lasts result (D.charted desk.new).spent }
     ensures elements { AreOfElements network.now (published publisher.new) }
     ensures list { list_of publisher.new ≡ list_of publisher.old }
     ensures files { T.files store.new ≡ T.files store.old }
@@ -39,7 +46,7 @@ pub(crate) fn end_line<T: Store, K: Sink, D: Chart, R: Wait + Drop>(
     do_line(
         alloc, desk, store, network, publisher, begun, number, has_end, &mut text,
     )?;
-    write_all(out, &text)?;
+    say(out, &text);
     begun.clear(number);
     Ok(())
 }
@@ -56,8 +63,8 @@ fn take_byte<T: Store, K: Sink, D: Chart, R: Wait + Drop>(
 ) -> Result<(), Operated>
     requires elements { AreOfElements network.now (published publisher.old) }
     requires fresh { (D.charted desk.old).spent ≡ None }
-    ensures feeds { (line : List ℕ) → IsBegun begun.old.bytes.items begun.old.is_long line → Feeds (context network.now (T.files store.old)) (byte ∷ []) result line (begun_of begun.old.before begun.old.bytes.items begun.old.is_long) (begun_of begun.new.before begun.new.bytes.items begun.new.is_long) (progress (D.charted desk.old) (published publisher.old) (T.faults store.old) (T.failed_at store.old)) (progress (D.charted desk.new) (published publisher.new) (T.faults store.new) (T.failed_at store.new)) (K.written out.old) (K.written out.new) }
-    ensures lasts { Lasts result (K.faults out.old) (K.faults out.new) (D.charted desk.new).spent }
+    ensures feeds { (line : List ℕ) → IsBegun begun.old.bytes.items begun.old.is_long line → Feeds (context network.now (T.files store.old)) (byte ∷ []) result line (begun_of begun.old.before begun.old.bytes.items begun.old.is_long) (begun_of begun.new.before begun.new.bytes.items begun.new.is_long) (progress (D.charted desk.old) (published publisher.old) (T.faults store.old) (T.failed_at store.old)) (progress (D.charted desk.new) (published publisher.new) (T.faults store.new) (T.failed_at store.new)) (side (K.written out.old) (K.faults out.old)) (side (K.written out.new) (K.faults out.new)) }
+    ensures lasts { Lasts result (D.charted desk.new).spent }
     ensures elements { AreOfElements network.now (published publisher.new) }
     ensures list { list_of publisher.new ≡ list_of publisher.old }
     ensures files { T.files store.new ≡ T.files store.old }
@@ -82,8 +89,8 @@ pub(crate) fn take_piece<T: Store, K: Sink, D: Chart, R: Wait + Drop>(
 ) -> Result<(), Operated>
     requires elements { AreOfElements network.now (published publisher.old) }
     requires fresh { (D.charted desk.old).spent ≡ None }
-    ensures feeds { (line : List ℕ) → IsBegun begun.old.bytes.items begun.old.is_long line → Feeds (context network.now (T.files store.old)) piece.now result line (begun_of begun.old.before begun.old.bytes.items begun.old.is_long) (begun_of begun.new.before begun.new.bytes.items begun.new.is_long) (progress (D.charted desk.old) (published publisher.old) (T.faults store.old) (T.failed_at store.old)) (progress (D.charted desk.new) (published publisher.new) (T.faults store.new) (T.failed_at store.new)) (K.written out.old) (K.written out.new) }
-    ensures lasts { Lasts result (K.faults out.old) (K.faults out.new) (D.charted desk.new).spent }
+    ensures feeds { (line : List ℕ) → IsBegun begun.old.bytes.items begun.old.is_long line → Feeds (context network.now (T.files store.old)) piece.now result line (begun_of begun.old.before begun.old.bytes.items begun.old.is_long) (begun_of begun.new.before begun.new.bytes.items begun.new.is_long) (progress (D.charted desk.old) (published publisher.old) (T.faults store.old) (T.failed_at store.old)) (progress (D.charted desk.new) (published publisher.new) (T.faults store.new) (T.failed_at store.new)) (side (K.written out.old) (K.faults out.old)) (side (K.written out.new) (K.faults out.new)) }
+    ensures lasts { Lasts result (D.charted desk.new).spent }
     ensures elements { AreOfElements network.now (published publisher.new) }
     ensures list { list_of publisher.new ≡ list_of publisher.old }
     ensures files { T.files store.new ≡ T.files store.old }

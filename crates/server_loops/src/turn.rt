@@ -7,6 +7,7 @@ use crate::desks::{Desk, DeskRefused};
 use crate::sessions::Ended;
 use dom_base::Bytes;
 use dom_edge::{Got, Wire, write_whole};
+use network_links::Rest;
 use plant_model::{Event, Outcome, Refused};
 use std::alloc::Global;
 
@@ -61,16 +62,16 @@ fn feed<D: Desk>(alloc: Global, desk: &mut D, peer: u32, piece: &[u8]) -> Result
     }
 }
 
-// Takes messages until one is refused.
-#[tactic(auto, using(crate::proofs::Turning::none_taken, crate::proofs::Turning::one_taken, crate::proofs::Turning::taken_until, crate::proofs::Turning::taken_cut, crate::proofs::Turning::all_taken))]
+// Takes messages until none waits, one is refused, or what waits for the peer has to be handed out first.
+#[tactic(auto, using(crate::proofs::Turning::none_taken, crate::proofs::Turning::one_taken, crate::proofs::Turning::taken_last, crate::proofs::Turning::taken_until, crate::proofs::Turning::taken_cut, crate::proofs::Turning::all_taken))]
 fn take_all<D: Desk>(desk: &mut D, peer: u32) -> Result<(), Ended>
     requires { (D.desked desk.old).spent ≡ None }
     ensures { IsTaken peer result (D.desked desk.old) (D.desked desk.new) }
 {
     for _take in 0..TAKES_MAX {
-        match desk.act(Event::Take(peer)) {
-            Ok(_) => {}
-            Err(DeskRefused::Plant(_)) => return Ok(()),
+        match desk.take(peer) {
+            Ok(Rest::Messages) => {}
+            Ok(Rest::Nothing | Rest::Backlog) | Err(DeskRefused::Plant(_)) => return Ok(()),
             Err(DeskRefused::Spent(number)) => return Err(Ended::Spent(number)),
         }
     }

@@ -1,4 +1,4 @@
--- The line of a change file that is to blame for what its changes met.
+-- The line of a change file that is at fault when its changes fail.
 use Rattle.std.specs.Prelude.{◌≡◌, ◌≢◌, ◌⊎◌, ◌≤◌, ◌+◌, ℕ, List, map, Option, Some, slice_get, Contains}
 use Rattle.std.specs.Option.{option_map}
 use Rattle.line_text.specs.Lines.{NumberedLine, told_lines}
@@ -65,7 +65,7 @@ IsBlamedAt g changes file (Present i) line = StandsIn file i line
 IsBlamedAt g changes file (Rule fault at) line = IsLineOfPlace g changes file at line
 IsBlamedAt g changes file NoMemory line = line ≡ 0
 
--- a broken rule, whose line is looked for among the changed rows; of all else the answer has the place
+-- a broken rule, whose line is looked for among the changed rows; every other error has its place
 abbrev pub IsOfRule : ChangeError → Type 0
 IsOfRule (Absent i) = ⊥
 IsOfRule (Present i) = ⊥

@@ -38,7 +38,7 @@ far_in words = do
   far ← first addr_in words
   last far.0 far.1
 
--- what `drop` may be followed by
+-- the words behind `drop`
 unfoldable pub dropped_in : List (List ℕ) → Option Change
 dropped_in [] = None
 dropped_in (kind ∷ words) =

@@ -17,7 +17,7 @@ use Rattle.te_deltas.specs.declared.changes.Change.TheVariants.{AddNode, DropNod
 
 -- ---- names
 
--- a node is named by its address, a link and an out link by the far address, an entry by all that it says
+-- a node is named by its address, a link and an out link by the far address, an entry by all its fields
 abbrev pub name_of : TextRow → RowName
 name_of (rows.Node n) = names.Node n
 name_of (rows.Link l) = names.Link l.far
@@ -91,7 +91,7 @@ is_mistake_by None there = not there
 abbrev pub is_mistake : List TextRow → Change → Bool
 is_mistake list change = is_mistake_by (added change) (has_name (named change) list)
 
--- no change before place i is a mistake where its turn comes
+-- no change before place i is a mistake when it is made
 abbrev pub NoneBefore : List TextRow → List Change → ℕ → Type 0
 NoneBefore list changes i = (j : ℕ) (change : Change) → j < i → slice_get changes j ≡ Some change → is_mistake (rows_after list (take j changes)) change ≡ false
 

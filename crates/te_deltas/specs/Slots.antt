@@ -1,4 +1,4 @@
--- What a table is, by its fields.
+-- A table as contracts see it, by its fields.
 use Rattle.std.specs.Prelude.{◌≡◌, suc, List, [], ◌∷◌, Option, Some, None, ℕ, false, if◌then◌else◌}
 use Rattle.std.specs.Option.{option_map}
 use Rattle.std.specs.BTreeMap.{get}

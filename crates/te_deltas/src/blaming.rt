@@ -1,4 +1,4 @@
-//! The line of a change file that is to blame for what its changes met.
+//! The line of a change file that is at fault when its changes fail.
 ghost use Rattle.std.specs.Prelude.{◌≡◌, ◌≤◌, ◌<◌, length, Ok, Some, IsSome, IfOk, OnErr, MatchOption};
 ghost use Rattle.std.specs.Option.{option_map};
 ghost use Rattle.line_text.specs.Lines.{told_lines};
@@ -76,7 +76,7 @@ fn line_of_row(
     requires there { IsSome (row_at (changed_rows topology.now changes.now) row.kind row.index) }
     ensures { IfOk result (IsLineOfPlace topology.now changes.now file.now row) }
 {
-    // No change is a mistake, so memory is all that may lack.
+    // No change is a mistake, so memory is all that may run out.
     let Ok(parts) = changed_parts(alloc, topology, changes) else {
         return Err(NoMemory);
     };
@@ -86,9 +86,9 @@ fn line_of_row(
     }
 }
 
-/// The line of a change file that is to blame for what `apply` answered to its changes: of a row
-/// that is absent or present, the line of that change; of a rule, the line of the change that added
-/// the row which breaks it, or 0 where the row was there before; 0 for want of memory. Lines count
+/// The line of a change file that is at fault for the error of `apply` on its changes: for a row
+/// that is absent or present, the line of that change; for a rule, the line of the change that added
+/// the row which breaks it, or 0 where the row was there before; 0 for `NoMemory`. Lines count
 /// from 1, blank lines and comments too. For a rule the changes are made again.
 pub fn line_of_fault(
     alloc: Global,

@@ -1,7 +1,7 @@
-//! What a built topology is, as a law.
+//! A law: rows build one topology.
 ghost use Rattle.te_deltas.specs.Answers.{BuiltOnce};
 
-/// Rows of which a topology is built make no other one, since a topology stands in its own order.
+/// Rows from which a topology is built make no other one, since a topology has its own order.
 pub fn built_once()
     ensures { BuiltOnce }
 {}

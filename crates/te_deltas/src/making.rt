@@ -113,7 +113,7 @@ fn why_not(why: BuildError) -> ChangeError
     }
 }
 
-// Why there are no changed rows: what want of memory hid is looked for without it.
+// Why there are no changed rows. After `NoMemory` the first mistake is looked for without memory.
 fn told(topology: &Topology, changes: &[Change], met: ChangeError) -> ChangeError
     requires { IsMistake (rows_in_order topology.now) changes.now met }
     ensures { IsWhy topology.now changes.now result }
@@ -127,8 +127,8 @@ fn told(topology: &Topology, changes: &[Change], met: ChangeError) -> ChangeErro
 /// The topology that `build` gives of the changed rows: the changes are made one at a time, in
 /// their order, where a drop takes its row out and an add appends its row to those of its kind.
 /// `Absent` and `Present` name the first change that is a mistake; only where there is none the
-/// rules are looked at, or memory lacks. Takes time in proportion to the rows and the changes and
-/// the logarithm of their number; where memory lacks, also to the square of the changes' number.
+/// rules are tested, or memory runs out. Takes time in proportion to the rows and the changes and
+/// the logarithm of their number; when out of memory, also to the square of the changes' number.
 pub fn apply(
     alloc: Global,
     topology: &Topology,

@@ -1,4 +1,4 @@
-//! What names a row among all rows of a topology.
+//! The name of a row among all rows of a topology.
 ghost use Rattle.std.specs.Prelude.{◌≡◌};
 ghost use Rattle.te_deltas.specs.Changes.{name_of};
 
@@ -6,8 +6,8 @@ use dom_base::Addr;
 use te_links::Entry;
 use te_text::TextRow;
 
-/// The name of a row: a node is named by its address, a link and an out link by the far address,
-/// an entry by all that it says. No two rows of a topology have one name.
+/// The name of a row: the address of a node, the far address of a link or an out link, or all
+/// fields of an entry. No two rows of a topology have one name.
 #[derive(Clone, Copy, PartialEq, Eq, PartialOrd, Ord)]
 pub enum RowName {
     Node(Addr),

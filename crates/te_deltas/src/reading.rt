@@ -48,7 +48,7 @@ fn drop_row(row: TextRow) -> Option<Change>
     }
 }
 
-// The change that is dropped by words; `again` has the same words.
+// A drop, by its words; `again` has the same words.
 #[tactic(auto, unfolding(crate::specs::ChangeText::dropped_in))]
 fn read_drop(
     alloc: Global,
@@ -110,7 +110,7 @@ fn read_line(alloc: Global, line: &Line<'_>) -> Result<Change, TextError>
     }
 }
 
-/// Whether so many bytes are no more than a change file may have.
+/// Whether a change file may have so many bytes.
 pub fn is_change_file(bytes: &[u8]) -> bool
     ensures { IsTrue result ↔ (length bytes.now ≤ change_file_most) }
 {
@@ -121,8 +121,8 @@ pub fn is_change_file(bytes: &[u8]) -> bool
 /// [SRLG ..]`, `add out FROM HEAD NEAR FAR AS IGP TE BW COLOUR [SRLG ..]`, `add entry NODE AS`, `drop
 /// node ADDR`, `drop link FAR`, `drop out FAR` and `drop entry NODE AS`. Lines and words are those of
 /// the text of a topology: blank lines and lines that begin with `#` only count. The change at place
-/// i stands in the i-th line that tells something. The fault, `Syntax`, stands at the first line that
-/// is outside this form.
+/// i stands in the i-th line that is neither blank nor a comment. The fault, `Syntax`, is that of the
+/// first line outside this form.
 pub fn read_changes(alloc: Global, bytes: &[u8]) -> Result<List<Change>, TextError>
     requires { length bytes.now ≤ change_file_most }
     ensures { GivesText result (text_in bytes.now) }

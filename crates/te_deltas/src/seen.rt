@@ -95,8 +95,8 @@ fn is_mistake(change: &Change, there: bool) -> bool
     }
 }
 
-/// The first mistake among changes, or want of memory where there is none. No table is kept of the
-/// changes before each, so its time grows with the square of their number.
+/// The first mistake among changes, or `NoMemory` where there is none. It keeps no table of earlier
+/// changes, so its time grows with the square of their number.
 pub(crate) fn mistake_seen(topology: &Topology, changes: &[Change]) -> ChangeError
     ensures { IsWhy topology.now changes.now result }
 {

@@ -12,7 +12,7 @@ use std::marker::Model;
 use te_links::Parts;
 use te_text::TextRow;
 
-/// Rows of which no two have one name. A row that was taken out leaves its slot empty, so that
+/// Rows with different names. A row that was taken out leaves its slot empty, so that
 /// nothing moves.
 #[derive(Drop)]
 pub(crate) struct Table {

@@ -1,4 +1,4 @@
--- What the generations are, by their fields.
+-- The generations as contracts see them, by their fields.
 use Rattle.std.specs.Prelude.{map}
 use Rattle.te_links.specs.Rows.{Rows}
 use Rattle.te_generations.specs.Shelf.{Shelf, IsShelf}

@@ -1,4 +1,4 @@
--- What is seen of a live generation.
+-- A live generation as contracts see it.
 use Rattle.std.specs.Prelude.{◌≡◌, ◌≢◌, ℕ, zero, suc, List, [], ◌∷◌}
 use Rattle.std.specs.Arc.{arc_value}
 use Rattle.dom_base.specs.declared.names.As.{As}

@@ -1,4 +1,4 @@
--- What becomes of a pinned generation over any calls.
+-- What becomes of a pinned generation over any sequence of calls.
 use Rattle.std.specs.Prelude.{◌≡◌, ◌≢◌, ◌⊎◌, ◌↔◌, ◌≤◌, ◌<◌, ◌-◌, ◌^◌, ℕ, List, [], ◌∷◌, Some, length, AllPairs, Contains}
 use Rattle.te_generations.specs.Shelf.{Shelf, IsShelf, IsFull, live_most, pins_most, pins_of, topology_of, all_pins, loaded_of, pinned_of, released_of}
 

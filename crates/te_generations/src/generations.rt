@@ -119,7 +119,7 @@ impl Generations {
         }
     }
 
-    /// Gives a pin of this value back; takes no memory. A generation that is not current ends with its
+    /// Gives back a pin of this value; takes no memory. A generation that is not current ends with its
     /// last pin.
     pub fn release(&mut self, pin: Pin)
         requires { 1 ≤ pins_of self.old pin }

@@ -1,8 +1,8 @@
-//! What becomes of a pinned generation over any calls, as laws.
+//! What becomes of a pinned generation over all sequences of calls, as laws.
 ghost use Rattle.te_links.specs.Rows.{Rows};
 ghost use Rattle.te_generations.specs.Runs.{FullByNumbers, KeepsTopology, PinGivesCurrent};
 
-/// Over all runs of calls, a pin gives the topology that was current when it was made, through every
+/// Over all sequences of calls, a pin gives the topology that was current when it was made, through every
 /// later load; and a generation that keeps a pin keeps its topology.
 pub fn pins_keep_topologies()
     ensures pinned { PinGivesCurrent Rows }

@@ -1,4 +1,4 @@
--- What is built of rows.
+-- The topology that is built from rows.
 use Rattle.std.specs.Prelude.{◌≡◌, IsPermutation}
 use Rattle.te_links.specs.Rows.{Rows, IsTopology}
 

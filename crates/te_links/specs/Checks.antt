@@ -1,4 +1,4 @@
--- What the checks of single rows and of single lists answer.
+-- The answers of checks on single rows and single lists.
 use Rattle.std.specs.Prelude.{◌≡◌, ◌<◌, ℕ, Option, Some, None, cond}
 use Rattle.te_links.specs.declared.checks.Broken.{Broken}
 use Rattle.te_links.specs.declared.fault.TopoFault.{TopoFault}

@@ -96,7 +96,7 @@ pub record IsFirstBreach (g : Rows) (fault : TopoFault) (row : Row) : Type 0 whe
   pub first_rule : (other : TopoFault) → fault_order other < fault_order fault → ¬ Breaks g row.kind row.index other
   pub first_row : (kind : RowKind) (i : ℕ) (other : TopoFault) → IsBefore kind i row → ¬ Breaks g kind i other
 
--- why rows are refused; want of memory says nothing of them
+-- why rows are refused; "out of memory" says nothing about them
 abbrev pub IsReason : Rows → BuildError → Type 0
 IsReason g (Rule fault row) = IsFirstBreach g fault row
 IsReason g NoMemory = Unit {0}

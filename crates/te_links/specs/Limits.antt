@@ -1,4 +1,4 @@
--- How much a topology may have, as numbers: those that the constants of the code are.
+-- How much a topology may have, as numbers. The constants in the code are proved to be these numbers.
 use Rattle.std.specs.Prelude.{◌≡◌}
 use Rattle.te_links.specs.declared.limits.TheConstants.{NODES_MAX, LINKS_MAX, OUTS_MAX, TAILS_MAX, ENTRIES_MAX, ENTRY_NODES_MAX, SRLGS_MAX, METRIC_MAX}
 

@@ -1,4 +1,4 @@
--- What the rules ask of a row and the rows before it.
+-- What the rules need to know of a row and the rows before it.
 use Rattle.std.specs.Prelude.{◌≡◌, ◌≤◌, ◌<◌, ◌==◌, ◌+◌, ℕ, List, Some, length, map, take, count_by, AllPairs, Contains, IsPermutation, slice_get, slice_index_or}
 use Rattle.std.specs.declared.cmp.Ordering.{Ordering}
 use Rattle.std.specs.BTreeMap.{is_at}

@@ -1,4 +1,4 @@
-//! Topologies from rows: the rules are tested, and the rows are brought into order.
+//! Topologies from rows: the rows are tested by the rules and brought into order.
 ghost use Rattle.std.specs.Prelude.{◌<◌, ◌^◌, length, IfOk, IfErr};
 ghost use Rattle.te_links.specs.Rows.{IsTopology};
 ghost use Rattle.te_links.specs.Built.{IsBuilt};

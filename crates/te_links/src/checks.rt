@@ -27,7 +27,7 @@ fn refusal(fault: TopoFault, kind: RowKind, index: usize) -> BuildError
     )
 }
 
-// Which rules a row breaks: none that are not of its kind.
+// Which rules a row breaks; a rule that is not of its kind is never broken.
 #[derive(Clone, Copy)]
 struct Broken {
     too_many: bool,

@@ -25,7 +25,7 @@ impl<'a> Model for Counted<'a> {
 }
 
 impl<'a> Counted<'a> {
-    /// The links of this topology, none of which is read yet.
+    /// The links of this topology, with a count of 0.
     pub fn new(topology: &'a Topology) -> Counted<'a>
         ensures topology { result.topology ≡ topology.now }
         ensures reads { result.reads ≡ 0 }
@@ -33,7 +33,7 @@ impl<'a> Counted<'a> {
         Counted { topology, reads: 0 }
     }
 
-    /// How many links were read, each as often as it was.
+    /// How many reads of links there were.
     pub fn reads(&self) -> u64
         ensures { result ≡ self.now.reads }
     {

@@ -1,4 +1,4 @@
-//! What is wrong with rows, and at which row.
+//! The faults of rows, and the rows at fault.
 ghost use Rattle.std.specs.Prelude.{◌≡◌};
 ghost use Rattle.te_links.specs.declared.fault.BuildError.TheVariants.{NoMemory};
 
@@ -12,7 +12,7 @@ pub enum TopoFault {
     /// The row is past a limit, or has too many shared risk groups.
     TooMany,
     DuplicateNode,
-    /// A link between other nodes, or an out link or an entry at another node, than there are.
+    /// A link to or from an unknown node, or an out link or an entry at an unknown node.
     UnknownNode,
     /// An out link or an entry names the own domain, or 0.
     OwnAs,
@@ -43,7 +43,7 @@ impl fmt::Display for TopoFault {
     }
 }
 
-/// The lists of a topology's rows.
+/// The lists of rows in a topology.
 #[derive(Clone, Copy, Debug)]
 pub enum RowKind {
     Node,
@@ -59,7 +59,7 @@ pub struct Row {
     pub index: u32,
 }
 
-/// Why rows are no topology: the first rule that is broken and the row that breaks it, or want of
+/// Why rows are no topology: the first rule that is broken and the row that breaks it, or out of
 /// memory.
 #[derive(Clone, Copy)]
 pub enum BuildError {

@@ -1,4 +1,4 @@
-//! What a search sees of a topology.
+//! A topology as a search sees it.
 ghost use Rattle.std.specs.Prelude.{◌≡◌, ◌<◌, ℕ, length, slice_get, Contains, Some, MatchOption};
 ghost use Rattle.te_links.specs.Rows.{Rows, IsTopology, IsInOrder};
 ghost use Rattle.te_links.specs.Index.{IsLinksInto, IsLinksFrom};
@@ -7,8 +7,8 @@ ghost use Rattle.te_links.specs.Reads.{RoseByOne};
 use crate::rows::OutLink;
 use dom_base::{Addr, Link};
 
-/// The rows of a topology, as a search sees them. An inner link is seen through `link_at`,
-/// `link_with_tail` and `link_with_head` alone, which count. What is handed out lives as long as the topology, and does not borrow the value.
+/// The rows of a topology, as a search sees them. An inner link is read by `link_at`,
+/// `link_with_tail` and `link_with_head` alone, which count. Results live as long as the topology, and do not borrow the value.
 pub trait Links<'a> {
     /// The topology, which no call changes.
     ghost rows: { Self → Rows };
@@ -62,7 +62,7 @@ pub trait Links<'a> {
         ensures same { rows self.new ≡ rows self.old }
         ensures counted { RoseByOne (reads self.old) (reads self.new) };
 
-    /// Reads an inner link as `link_at` does, and tells with it the place of the node that it
+    /// Reads an inner link as `link_at` does, with the place of the node that it
     /// begins at.
     fn link_with_tail(&mut self, i: u32) -> (&'a Link, u32)
         requires { i < length (rows self.old).links }
@@ -71,7 +71,7 @@ pub trait Links<'a> {
         ensures same { rows self.new ≡ rows self.old }
         ensures counted { RoseByOne (reads self.old) (reads self.new) };
 
-    /// Reads an inner link as `link_at` does, and tells with it the place of the node that it ends at.
+    /// Reads an inner link as `link_at` does, with the place of the node that it ends at.
     fn link_with_head(&mut self, i: u32) -> (&'a Link, u32)
         requires { i < length (rows self.old).links }
         ensures link { slice_get (rows self.old).links i ≡ Some result.0.now }

@@ -1,4 +1,4 @@
-//! Places of addresses among addresses in order: a guess is looked at before they are searched.
+//! Places of addresses in a sorted list: first a guess, then a search.
 ghost use Rattle.std.specs.Prelude.{◌≡◌, ◌<◌, ◌≤◌, ℕ, length, slice_get, AllPairs, Contains, Some, IsTrue, MatchOption};
 ghost use Rattle.dom_base.specs.AddrOrder.{rank};
 ghost use Rattle.te_links.specs.Index.{IsLinkAt};
@@ -10,8 +10,8 @@ use std::alloc::{AllocError, Global};
 // How many slots of the table there are for each address: fewer than one in eight then share theirs.
 const SLOTS: usize = 4;
 
-/// Guesses where an address stands among addresses in order, by a hash of it. A guess may be wrong,
-/// so whoever asks looks.
+/// Guesses the place of an address in a sorted list, by a hash of it. A guess may be wrong, so the
+/// caller compares.
 #[derive(Drop)]
 pub(crate) struct Hints {
     slots: Vec<u16>,

@@ -7,7 +7,7 @@ pub struct OutLink {
     pub to_as: As,
 }
 
-// Written, so that it is proved once: a derived one is proved anew in each crate that drops a value.
+// Written by hand, so that it is proved once: a derived one would be proved again in each crate that drops a value.
 impl Drop for OutLink {
     fn drop(self) {
         let OutLink { link: _, to_as: _ } = self;

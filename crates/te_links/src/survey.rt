@@ -1,4 +1,4 @@
-//! What the rules ask of rows together: repeats and limits on different nodes.
+//! What the rules need to know of all rows together: repeats, and limits on different nodes.
 ghost use Rattle.std.specs.Prelude.{◌≡◌, ◌≢◌, ◌<◌, ◌++◌, AllPairs, Contains, IfOk, map};
 ghost use Rattle.std.specs.Bool.{Decides};
 ghost use Rattle.std.specs.BTreeMap.{is_at};
@@ -13,8 +13,8 @@ use dom_base::{Addr, As, stands};
 use std::alloc::{AllocError, Global};
 use std::collections::BTreeMap;
 
-/// What the rules ask of a row and the rows before it, and the nodes in the order of their
-/// addresses. It is all that the rules need memory for.
+/// What the rules need to know of a row and the rows before it, and the nodes in the order of their
+/// addresses. The rules need memory for nothing else.
 #[derive(Drop)]
 pub(crate) struct Survey {
     pub(crate) nodes: Vec<Addr>,
@@ -68,8 +68,8 @@ fn differ_sorted(alloc: Global, addrs: &[Addr]) -> Result<bool, AllocError>
     Ok(rises(&sorted))
 }
 
-// Whether no address is there twice. Rows mostly come in the order of their addresses: then nothing
-// is copied.
+// Whether no address is there twice. Rows mostly come in the order of their addresses: then no copy
+// is made.
 #[tactic(auto, using(crate::proofs::Different::risen_differ))]
 fn all_differ(alloc: Global, addrs: &[Addr]) -> Result<bool, AllocError>
     ensures { IfOk result (λ differ. Decides differ (AllPairs (λ a b. a ≢ b) addrs.now)) }
@@ -80,8 +80,8 @@ fn all_differ(alloc: Global, addrs: &[Addr]) -> Result<bool, AllocError>
     differ_sorted(alloc, addrs)
 }
 
-// For each address how often it stands among those before it: never, in a topology, and a sort
-// tells so sooner than a map.
+// For each address how often it stands among those before it. In a topology that is never, and a
+// sort shows it sooner than a map.
 fn repeats_of(alloc: Global, addrs: &[Addr]) -> Result<Vec<usize>, AllocError>
     ensures { IfOk result (λ counts. TellsRepeats addrs.now counts.items) }
 {
@@ -91,7 +91,7 @@ fn repeats_of(alloc: Global, addrs: &[Addr]) -> Result<Vec<usize>, AllocError>
     counts_before(alloc, addrs)
 }
 
-// How many addresses there are from the front on among which at most `most` differ.
+// How long the front part is in which at most `most` addresses differ.
 fn few_up_to(alloc: Global, addrs: &[Addr], most: usize) -> Result<usize, AllocError>
     ensures { IfOk result (IsFewUpTo most addrs.now) }
 {

@@ -25,7 +25,7 @@ pub struct Topology {
     ends: Ends,
 }
 
-// Written, so that it is proved once: a derived one is proved anew in each crate that drops a value.
+// Written by hand, so that it is proved once: a derived one would be proved again in each crate that drops a value.
 impl Drop for Topology {
     fn drop(self) {
         let Topology {

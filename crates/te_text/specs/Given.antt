@@ -1,4 +1,4 @@
--- What a reader answers beside what the words or lines say. Memory may always be wanting.
+-- The answers of a reader: what the words or lines say, or at any time "out of memory".
 use Rattle.std.specs.Prelude.{◌≡◌, Option, Some, None, Result, Ok, Err}
 use Rattle.te_text.specs.declared.row.RowError.{RowError}
 use Rattle.te_text.specs.declared.row.RowError.TheVariants as row

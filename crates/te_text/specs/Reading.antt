@@ -13,7 +13,7 @@ use Rattle.te_text.specs.declared.error.TextError.{TextError}
 use Rattle.te_text.specs.declared.error.TextError.TheVariants.{At}
 use Rattle.te_text.specs.RowText.{as_in, first, last, row_in}
 
--- goes on with what was read; the first fault stays
+-- the next step, on what was read; the first fault stays
 abbrev pub and_then : {X Y : Type 0} → Result X TextError → (X → Result Y TextError) → Result Y TextError
 and_then (Ok x) others = others x
 and_then (Err fault) others = Err fault

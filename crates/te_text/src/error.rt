@@ -1,8 +1,8 @@
-//! What is wrong with a text.
+//! The faults of a text.
 use dom_base::NoMemory;
 use te_links::TopoFault;
 
-/// Why a text is no topology, or says nothing of one: what is wrong at which line, from 1, or want of
+/// Why a text is no topology, or says nothing of one: a fault and its line, from 1, or out of
 /// memory.
 #[derive(Clone, Copy, Debug)]
 pub enum TextError {

@@ -28,7 +28,7 @@ impl RowLines {
 /// The topology of a text with the lines `topology AS` (first, once), `node ADDR`, `link FROM TO
 /// NEAR FAR IGP TE BW COLOUR [SRLG ..]`, `out FROM HEAD NEAR FAR AS IGP TE BW COLOUR [SRLG ..]` and
 /// `entry NODE AS`. Lines are numbered from 1; blank lines and lines that begin with `#` only
-/// count. A fault stands at the first line that is outside this form, else at the line of the
+/// count. The fault is that of the first line outside this form, else of the line of the
 /// first row that breaks a rule of topologies.
 pub fn read_topology(alloc: Global, bytes: &[u8]) -> Result<Topology, TextError>
     requires { length (lines_of bytes.now) < 2 ^ 32 - 1 }

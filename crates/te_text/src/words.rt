@@ -7,7 +7,7 @@ ghost use Rattle.te_text.specs.Spelled.{spaced, SpellsEnds, SpellsSrlgs, SpellsT
 
 use dom_base::{Addr, Link, NoMemory, write_addr, write_colour, write_number};
 
-// Each of these writes words at the end, with a blank before each. After a refusal a part of them
+// Each of these writes words at the end, with a blank before each. On `NoMemory` a part of them
 // may stand there.
 
 pub(crate) fn push_addr(addr: Addr, into: &mut Vec<u8>) -> Result<(), NoMemory>

@@ -14,7 +14,7 @@ use Rattle.ted_watch.specs.declared.shown.Shown.{Shown}
 use Rattle.ted_watch.specs.Answers.{AreAnswered, Reads, asked_in, text_of}
 use Rattle.ted_watch.specs.Serving.{AreTaken, Cuts, Feeds, GoesOn, HasNoEnd, IsOpen, Leaves, Writes, ended}
 use Rattle.ted_watch.specs.declared.serving.Watched.{Watched}
-use Rattle.ted_watch.specs.declared.serving.Watched.TheVariants.{PeerEnd, ReadFault, WriteFault, LongLine, Turns, NoMemory}
+use Rattle.ted_watch.specs.declared.serving.Watched.TheVariants.{PeerEnd, ReadFault, WriteFault, LongLine, Silent, Turns, NoMemory}
 
 -- ---- what was written
 
@@ -34,6 +34,7 @@ writes_on PeerEnd a b c s t first second = Appends-trans a b c s t first second
 writes_on ReadFault a b c s t first second = Appends-trans a b c s t first second
 writes_on WriteFault a b c s t first second = some_on a b c s t first second
 writes_on LongLine a b c s t first second = Appends-trans a b c s t first second
+writes_on Silent a b c s t first second = Appends-trans a b c s t first second
 writes_on Turns a b c s t first second = Appends-trans a b c s t first second
 writes_on NoMemory a b c s t first second = some_on a b c s t first second
 
@@ -104,6 +105,7 @@ leaves_more WriteFault rest more w v cuts leaves = tt
 leaves_more NoMemory rest more w v cuts leaves = tt
 leaves_more PeerEnd rest more w v cuts leaves = absurd cuts
 leaves_more ReadFault rest more w v cuts leaves = absurd cuts
+leaves_more Silent rest more w v cuts leaves = absurd cuts
 leaves_more Turns rest more w v cuts leaves = absurd cuts
 
 cuts_on : (end : Watched) (w v u : Writing) → w.faults ≤ v.faults → Cuts end v u → Cuts end w u
@@ -112,6 +114,7 @@ cuts_on LongLine w v u later cuts = tt
 cuts_on NoMemory w v u later cuts = tt
 cuts_on PeerEnd w v u later cuts = absurd cuts
 cuts_on ReadFault w v u later cuts = absurd cuts
+cuts_on Silent w v u later cuts = absurd cuts
 cuts_on Turns w v u later cuts = absurd cuts
 
 module _ (a b c : List Shown) (w v u : Writing) where

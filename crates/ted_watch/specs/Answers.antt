@@ -1,4 +1,4 @@
--- What operators are told who ask which topologies are published.
+-- The answers to operators who ask which topologies are published.
 use Rattle.std.specs.Prelude.{◌≡◌, ℕ, ◌==◌, ◌-◌, ◌^◌, List, [], ◌∷◌, ◌++◌, codes, decimal, Option, Some, None, if◌then◌else◌}
 use Rattle.std.specs.declared.option.Option.{Option}
 use Rattle.std.specs.Str.Lines.{strip_carriage_return}

@@ -1,5 +1,5 @@
 -- How operators are served over a connection.
-use Rattle.std.specs.Prelude.{◌≡◌, ◌≢◌, ℕ, ◌+◌, ◌-◌, ◌^◌, ◌<◌, ◌≤◌, ◌⊎◌, List, [], ◌∷◌, ◌++◌, length, take, min, All, Result, Ok, Err, Some, None}
+use Rattle.std.specs.Prelude.{◌≡◌, ◌≢◌, ℕ, ◌+◌, ◌-◌, ◌^◌, ◌<◌, ◌≤◌, ◌⊎◌, List, [], ◌∷◌, ◌++◌, length, take, min, All, Bool, true, false, Result, Ok, Err, Some, None}
 use Rattle.std.specs.List.{flat_map}
 use Rattle.std.specs.declared.option.Option.{Option}
 use Rattle.std.specs.Io.KnownBytes.{Appends, Consumes}
@@ -10,7 +10,7 @@ use Rattle.dom_edge.specs.Whole.{AppendsSome}
 use Rattle.ted_watch.specs.declared.shown.Shown.{Shown}
 use Rattle.ted_watch.specs.Answers.{AreAnswered}
 use Rattle.ted_watch.specs.declared.serving.Watched.{Watched}
-use Rattle.ted_watch.specs.declared.serving.Watched.TheVariants.{PeerEnd, ReadFault, WriteFault, LongLine, Turns, NoMemory}
+use Rattle.ted_watch.specs.declared.serving.Watched.TheVariants.{PeerEnd, ReadFault, WriteFault, LongLine, Silent, Turns, NoMemory}
 
 -- ---- lines
 
@@ -61,6 +61,10 @@ pub record AreTurns (turns bytes before now : ℕ) : Type 0 where
   pub took : reads ≤ bytes
   pub quiet : RoseBy quiets before now
 
+-- as many reads as this may be quiet one behind the other
+abbrev pub quiet_most : ℕ
+quiet_most = 6
+
 -- where the bytes of a stream are told, none is left
 abbrev pub IsReadOut : Option (List ℕ) → Option (List ℕ) → Type 0
 IsReadOut None new = Unit {0}
@@ -73,6 +77,7 @@ HasCause turns bytes ReadFault old new = Rose old.reading.faults new.reading.fau
 HasCause turns bytes WriteFault old new = Rose old.writing.faults new.writing.faults
 HasCause turns bytes Turns old new = AreTurns turns bytes old.reading.quiets new.reading.quiets
 HasCause turns bytes LongLine old new = Unit {0}
+HasCause turns bytes Silent old new = RoseBy quiet_most old.reading.quiets new.reading.quiets
 HasCause turns bytes NoMemory old new = Unit {0}
 
 -- The bytes that were taken from the connection are lines and a rest, and the lines are answered.
@@ -104,13 +109,23 @@ abbrev pub GoesOn : ℕ → Result (Unit {0}) Watched → List ℕ → List ℕ 
 GoesOn byte (Ok u) line left = (left ≡ line ++ byte ∷ []) × (length left < 64)
 GoesOn byte (Err end) line left = ((end ≡ LongLine) × (length line ≡ 63)) ⊎ (end ≡ NoMemory)
 
+-- how many reads were quiet one behind the other, behind a turn in which something came or not
+abbrev pub quiets_behind : Bool → ℕ → ℕ
+quiets_behind true quiets = 0
+quiets_behind false quiets = quiets + 1
+
+-- what came in a turn
+abbrev pub Comes : Bool → List ℕ → Sides → Sides → Type 0
+Comes true piece before after = 1 ≤ length piece
+Comes false piece before after = (piece ≡ []) × Rose before.reading.quiets after.reading.quiets
+
 -- a turn that took a piece, or was quiet
-pub record TakesOn (line left : List ℕ) (old new : List Shown) (before after : Sides) : Type 0 where
+pub record TakesOn (came : Bool) (line left : List ℕ) (old new : List Shown) (before after : Sides) : Type 0 where
   pub piece : List ℕ
   pub took : Consumes before.reading.left after.reading.left piece
   pub are_taken : AreTaken (line ++ piece) left old new (Appends before.writing.written after.writing.written)
   pub is_open : IsOpen left
-  pub turn : (1 ≤ length piece) ⊎ Rose before.reading.quiets after.reading.quiets
+  pub comes : Comes came piece before after
   pub faults : before.reading.faults ≤ after.reading.faults
   pub quiets : before.reading.quiets ≤ after.reading.quiets
   pub ends : before.reading.ends ≤ after.reading.ends
@@ -124,8 +139,9 @@ pub record Stops (end : Watched) (line : List ℕ) (old new : List Shown) (befor
   pub leaves : Leaves end rest
   pub are_taken : AreTaken (line ++ piece) rest old new (Writes end before.writing.written after.writing.written)
   pub ends : end ≢ Turns
+  pub heard : end ≢ Silent
   pub cause : HasCause 0 0 end before after
 
-abbrev pub IsTurned : Result (Unit {0}) Watched → List ℕ → List ℕ → List Shown → List Shown → Sides → Sides → Type 0
-IsTurned (Ok u) line left old new before after = TakesOn line left old new before after
+abbrev pub IsTurned : Result Bool Watched → List ℕ → List ℕ → List Shown → List Shown → Sides → Sides → Type 0
+IsTurned (Ok came) line left old new before after = TakesOn came line left old new before after
 IsTurned (Err end) line left old new before after = Stops end line old new before after

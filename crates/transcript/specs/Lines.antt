@@ -1,4 +1,4 @@
--- How the events of a run are told: lines, each of which begins with the number of the line of input that it comes from.
+-- The events of a run as lines, each of which begins with the number of the line of input that it comes from.
 use Rattle.std.specs.Prelude.{ℕ, Bool, true, false, List, [], ◌∷◌, ◌++◌, codes, decimal, Option, Some, None, Ok, Err}
 use Rattle.std.specs.List.{flat_map}
 use Rattle.network_links.specs.plant_model.Types.{As, Peer, Outside, Inner, Addr, BorderRow, Label, Sent, PeerRow}
@@ -17,7 +17,7 @@ use Rattle.network_links.specs.plant_model.Events.{Answered}
 abbrev pub numbered : ℕ → List ℕ → List ℕ
 numbered line text = decimal line ++ 32 ∷ [] ++ text ++ 10 ∷ []
 
--- ---- what came of an event
+-- ---- the outcome of an event
 
 abbrev pub refused_text : Refused → List ℕ
 refused_text GenerationsFull = codes "refused generations full"

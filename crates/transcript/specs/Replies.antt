@@ -1,4 +1,4 @@
--- What a client was answered, as lines for a person to read.
+-- The answer to a client, as lines for a person to read.
 use Rattle.std.specs.Prelude.{ℕ, List, [], ◌∷◌, ◌++◌, codes, decimal, Option, Some, None}
 use Rattle.std.specs.List.{flat_map}
 use Rattle.dom_base.specs.AddrText.{addr_text}

@@ -1,4 +1,4 @@
--- How long a script and its lines may be, and what is told of a line that is too long.
+-- How long a script and its lines may be, and the report of a line that is too long.
 use Rattle.std.specs.Prelude.{◌≡◌, ℕ, List, codes}
 use Rattle.line_text.specs.Lines.{NumberedLine}
 use Rattle.transcript.specs.declared.stop.Stop.{Stop}
@@ -19,7 +19,7 @@ input_name = codes "input"
 abbrev pub numbered : ℕ → List ℕ → NumberedLine
 numbered number text = record { number = number; text = text }
 
--- the file, unless memory lacks
+-- the file, unless memory runs out
 abbrev pub IsTooLarge : List ℕ → Stop → Type 0
 IsTooLarge name (stop.TooLarge file) = file ≡ name
 IsTooLarge name stop.NoMemory = Unit {0}

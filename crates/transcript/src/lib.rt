@@ -1,4 +1,4 @@
-//! How the events of a run and the answers to a client are told: the lines of a transcript; and why a script stops.
+//! The lines of a transcript, the answers to a client as text, and why a script stops.
 #![tactic(auto)]
 
 mod lines;

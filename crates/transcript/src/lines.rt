@@ -1,4 +1,4 @@
-//! The lines of a transcript. Each call writes at the end; after a refusal a part may stand there.
+//! The lines of a transcript. Each call writes at the end; on `NoMemory` a part may stand there.
 ghost use Rattle.std.specs.Prelude.{◌≡◌, ◌++◌, ◌∷◌, [], ◌<◌, ◌+◌, codes, decimal, drop, length, OnOk};
 ghost use Rattle.line_text.specs.Hexadecimal.{hex_text};
 ghost use Rattle.plant_text.specs.Settings.{peer_row};
@@ -124,7 +124,7 @@ fn write_head(line: u32, into: &mut Vec<u8>) -> Result<(), NoMemory>
     Ok(())
 }
 
-/// Writes what came of an event: `LINE ok`, `LINE ok generation G`, `LINE ok HEX` with ` ended` behind it where a
+/// Writes the outcome of an event: `LINE ok`, `LINE ok generation G`, `LINE ok HEX` with ` ended` behind it where a
 /// session is over and `-` for no bytes, or `LINE refused WHY`.
 pub fn write_answer(
     alloc: Global,

@@ -1,4 +1,4 @@
-//! What a client was answered, as lines for a person to read. Each call writes at the end; after a refusal a part may
+//! The answer to a client, as lines for a person to read. Each call writes at the end; on `NoMemory` a part may
 //! stand there.
 ghost use Rattle.std.specs.Prelude.{◌≡◌, ◌++◌, OnOk};
 ghost use Rattle.transcript.specs.Replies.{answer_lines, cost_line, cost_lines, hop_lines, hop_text, message_lines, notices_lines, pair_line, path_lines, replies_lines, reports_lines};

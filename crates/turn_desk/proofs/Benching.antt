@@ -5,20 +5,23 @@ use Rattle.std.specs.List.{AllByRecursion}
 use Rattle.std.proofs.lemmas.List.Elements.{filter_map-append}
 use Rattle.plant_network.specs.plant_model.Types.{As, NoMemory}
 use Rattle.plant_network.specs.declared.acts.Act.{Act}
-use Rattle.plant_network.specs.declared.acts.Act.TheVariants.{Ready}
-use Rattle.plant_network.specs.declared.acts.Acted.TheVariants.{Found}
+use Rattle.plant_network.specs.declared.acts.Act.TheVariants.{Next}
+use Rattle.plant_network.specs.declared.acts.Acted.TheVariants as acted
 use Rattle.plant_network.specs.declared.acts.ActAnswer.{ActAnswer}
+use Rattle.plant_network.specs.pce_element.pce_common.declared.rounds.AskedJob.{AskedJob}
+use Rattle.plant_network.specs.pce_element.pce_common.declared.rounds.Behind.{Behind}
 use Rattle.plant_network.specs.pce_parent.declared.work.Done.{Done}
 use Rattle.plant_network.specs.pce_parent.declared.work.Work.{Work}
 use Rattle.plant_network.specs.pce_parent.declared.work.Work.TheVariants as work
 use Rattle.server_loops.specs.Benches as bench
 use Rattle.server_loops.specs.Benches.{Call}
 use Rattle.server_loops.proofs.Turning.{all_on}
-use Rattle.turn_desk.specs.Desks.{IsOneTurn, IsTurnBy, Stand, benched_of}
-use Rattle.turn_desk.specs.Works.{AreAsked, AreDone, Finds, IsAnswer, IsQuestion, noted_calls, work_call, worked_of, works}
+use Rattle.te_links.specs.Rows.{Rows}
+use Rattle.turn_desk.specs.Desks.{IsTurn, Rests, Stand, benched_of}
+use Rattle.turn_desk.specs.Works.{AreAsked, AreDone, Finds, IsAnswer, IsQuestion, job_at, noted_calls, work_call, worked_of, works}
 use Rattle.turn_desk.specs.declared.notes.Note.{Note}
 use Rattle.turn_desk.proofs.Found.{picked_from, picked_in}
-use Rattle.turn_desk.proofs.Turning.{none_spent}
+use Rattle.turn_desk.proofs.Turning.{no_call_of, none_spent, rests_calls, rests_known, still_known}
 
 pub works_more : (calls made : List Call) → works (calls ++ made) ≡ works calls ++ works made
 works_more calls made = filter_map-append work_call calls made
@@ -30,31 +33,6 @@ no_question (Some n) k answer = refl
 
 -- ---- questions
 
--- what a question adds to a desk's own entries
-pub record Adds (answer : Option (As × ℕ)) (mid new : Stand) : Type 0 where
-  pub more : List (Act × ActAnswer)
-  pub own : new.own ≡ mid.own ++ more
-  pub each : AllByRecursion IsQuestion more
-  pub last : (before : List (Act × ActAnswer)) → new.spent ≡ None → IsAnswer answer (before ++ more)
-
-last_found : (k : ℕ) (turn : ActAnswer) (before : List (Act × ActAnswer)) (answer : Option (As × ℕ)) → turn.acted ≡ Found answer → IsAnswer answer (before ++ (Ready k, turn) ∷ [])
-last_found k turn before None is = tt
-last_found k turn before (Some job) is = record { before = before; last = (Ready k, turn); is = refl; found = is }
-
-pub adds : (k : ℕ) (answer : Option (As × ℕ)) (mid new : Stand) (s : Option ℕ) → new.spent ≡ s → IsTurnBy s (Ready k) (λ acted. acted ≡ Found answer) mid new → Adds answer mid new
-adds k answer mid new None live t = record {
-  more = (Ready k, t.0) ∷ [];
-  own = t.2.own;
-  each = ((k, answer, refl, t.1), tt);
-  last = λ before is. last_found k t.0 before answer t.1;
-}
-adds k answer mid new (Some n) spent r = record {
-  more = [];
-  own = r.own ∙ sym (append-nil mid.own);
-  each = tt;
-  last = λ before live. absurd (none_spent n new.spent live spent);
-}
-
 pub none_asked : (s : Stand) → AreAsked s s
 none_asked s = record {
   made = [];
@@ -65,36 +43,67 @@ none_asked s = record {
   stays = λ n is. is;
 }
 
-module _ (old mid new : Stand) (k : ℕ) (answer : Option (As × ℕ)) (a : AreAsked old mid) (goes : bench.Goes (benched_of mid) (benched_of new) (bench.Ready k answer)) (turn : IsOneTurn (Ready k) (λ acted. acted ≡ Found answer) mid new) where
-  abbrev added : Adds answer mid new
-  added = adds k answer mid new new.spent refl turn
+-- questions behind others
+abbrev pub asked_on : (old mid new : Stand) → AreAsked old mid → AreAsked mid new → AreAsked old new
+asked_on old mid new a b = record {
+  made = a.made ++ b.made;
+  own = b.own ∙ ap (λ (es : List (Act × ActAnswer)). es ++ b.made) a.own ∙ append_assoc old.own a.made b.made;
+  each = all_on IsQuestion a.made b.made a.each b.each;
+  no_work = b.no_work ∙ a.no_work;
+  topologies = λ at generation g known. b.topologies at generation g (a.topologies at generation g known);
+  stays = λ n was. b.stays n (a.stays n was);
+}
 
-  abbrev pub one_asked : AreAsked old new
-  one_asked = record {
-    made = a.made ++ added.more;
-    own = added.own ∙ ap (λ (es : List (Act × ActAnswer)). es ++ added.more) a.own ∙ append_assoc old.own a.made added.more;
-    each = all_on IsQuestion a.made added.more a.each added.each;
-    no_work = ap works goes.calls ∙ works_more (benched_of mid).calls (bench.made_by new.spent (bench.Ready k answer))
-        ∙ ap (λ (cs : List Call). works (benched_of mid).calls ++ cs) (no_question new.spent k answer) ∙ append-nil (works (benched_of mid).calls) ∙ a.no_work;
-    topologies = λ at generation g known. goes.topologies at generation g (a.topologies at generation g known);
-    stays = λ n was. goes.stays n (a.stays n was);
-  }
+answer_on : (answer : Option (As × ℕ)) (before made : List (Act × ActAnswer)) → IsAnswer answer made → IsAnswer answer (before ++ made)
+answer_on None before made is = tt
+answer_on (Some job) before made is = record {
+  before = before ++ is.before;
+  behind = is.behind;
+  asked = is.asked;
+  turn = is.turn;
+  is = ap (λ (es : List (Act × ActAnswer)). before ++ es) is.is ∙ sym (append_assoc before is.before ((Next job.0 is.behind, is.turn) ∷ []));
+  found = is.found;
+  number = is.number;
+}
 
-live : (s : Option ℕ) (job : As × ℕ) → ((n : ℕ) → s ≡ Some n → Some job ≡ None) → s ≡ None
-live None job idle = refl
-live (Some n) job idle = let no : Some job ≡ None = idle n refl in absurd (let none : ⊥ = cc in none)
+pub found_on : (old mid new : Stand) (answer : Option (As × ℕ)) → AreAsked old mid → Finds answer mid new → Finds answer old new
+found_on old mid new answer a f = record {
+  asked = asked_on old mid new a f.asked;
+  answered = answer_on answer a.made f.asked.made f.answered;
+  idle = f.idle;
+}
 
-answer_of : (old mid new : Stand) (k : ℕ) (answer : Option (As × ℕ)) (a : AreAsked old mid) (goes : bench.Goes (benched_of mid) (benched_of new) (bench.Ready k answer)) (turn : IsOneTurn (Ready k) (λ acted. acted ≡ Found answer) mid new) →
-    IsAnswer answer (one_asked old mid new k answer a goes turn).made
-answer_of old mid new k None a goes turn = tt
-answer_of old mid new k (Some job) a goes turn = (adds k (Some job) mid new new.spent refl turn).last a.made (live new.spent job goes.idle)
+-- the answer to one question
+job_found : (d : As) (behind : Behind) (turn : ActAnswer) (answer : Option AskedJob) → turn.acted ≡ acted.Next answer → IsAnswer (job_at d answer) ((Next d behind, turn) ∷ [])
+job_found d behind turn None is = tt
+job_found d behind turn (Some job) is = record { before = []; behind = behind; asked = job; turn = turn; is = refl; found = is; number = refl }
 
-pub one_found : (old mid new : Stand) (k : ℕ) (answer : Option (As × ℕ)) → AreAsked old mid → bench.Goes (benched_of mid) (benched_of new) (bench.Ready k answer) → IsOneTurn (Ready k) (λ acted. acted ≡ Found answer) mid new →
-    Finds answer old new
-one_found old mid new k answer a goes turn = record {
-  asked = one_asked old mid new k answer a goes turn;
-  answered = answer_of old mid new k answer a goes turn;
-  idle = goes.idle;
+pub one_told : (d : As) (behind : Behind) (answer : Option AskedJob) (old new : Stand) → IsTurn (Next d behind) (Ok (acted.Next answer)) old new → Finds (job_at d answer) old new
+one_told d behind answer old new t = record {
+  asked = record {
+    made = (Next d behind, t.0) ∷ [];
+    own = t.2.own;
+    each = ((d, behind, answer, refl, t.1), tt);
+    no_work = ap works (no_call_of (Next d behind) (acted.Next answer) old new t refl);
+    topologies = λ at generation g known. still_known old new (Next d behind) t.0 t.2 at generation g known;
+    stays = λ n was. absurd (none_spent n old.spent t.2.spent.0 was);
+  };
+  answered = job_found d behind t.0 answer t.1;
+  idle = λ n now. absurd (none_spent n new.spent t.2.spent.1 now);
+}
+
+pub none_told : (d : As) (number : ℕ) (old new : Stand) → Rests old new number → Finds None old new
+none_told d number old new r = record {
+  asked = record {
+    made = [];
+    own = r.own ∙ sym (append-nil old.own);
+    each = tt;
+    no_work = ap works (rests_calls old new number r);
+    topologies = λ at generation g known. rests_known old new number r at generation g known;
+    stays = λ n was. r.spent ∙ ap (λ (m : ℕ). Some m) (sym (r.stays n was));
+  };
+  answered = tt;
+  idle = λ n now. refl;
 }
 
 pub none_found : (old new : Stand) → AreAsked old new → Finds None old new

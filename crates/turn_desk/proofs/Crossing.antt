@@ -8,6 +8,7 @@ use Rattle.dom_edge.specs.contracts.chime.Chime as Chime
 use Rattle.plant_lock.proofs.Crossing.{turn_seat_field_send, turnstile_send, turnstile_sync}
 use Rattle.plant_network.proofs.Crossing.{plant_send}
 use Rattle.turn_desk.specs.contracts.bells.Bells as Bells
+use Rattle.turn_desk.specs.contracts.circle.Circle as Circle
 use Rattle.turn_desk.specs.contracts.desk.TurnDesk as TurnDesk
 use Rattle.turn_desk.specs.contracts.workbench.WorkBench as WorkBench
 
@@ -33,6 +34,9 @@ bells_sync = search (once.the_sync, bell_send, bell_sync, chime_sync, sendable, 
 
 -- ---- desks and benches
 
+circle_field_send : IsSend Circle.the_field.row
+circle_field_send = search (crosses, sendable) depth 60 fits 30000
+
 pub turn_desk_send : (R : RattleType) → IsSend R → IsSend (TurnDesk.the_row R)
 turn_desk_send R r = search (turn_seat_field_send, turnstile_send, turnstile_sync, plant_send, bells_send, bells_sync, Arc-send, crosses, sendable) depth 60 fits 30000
 
@@ -41,7 +45,7 @@ pub turn_desk_field_send : (R : RattleType) → IsSend R → IsSend (TurnDesk.th
 turn_desk_field_send R r = search (turn_seat_field_send, turnstile_send, turnstile_sync, plant_send, bells_send, bells_sync, Arc-send, crosses, sendable) depth 60 fits 30000
 
 pub work_bench_send : (R : RattleType) → IsSend R → IsSend (WorkBench.the_row R)
-work_bench_send R r = let desk = turn_desk_field_send R r in search (crosses, sendable) depth 60 fits 30000
+work_bench_send R r = let desk = turn_desk_field_send R r in search (circle_field_send, crosses, sendable) depth 60 fits 30000
 
 pub work_bench_field_send : (R : RattleType) → IsSend R → IsSend (WorkBench.the_field R).row
-work_bench_field_send R r = let desk = turn_desk_field_send R r in search (crosses, sendable) depth 60 fits 30000
+work_bench_field_send R r = let desk = turn_desk_field_send R r in search (circle_field_send, crosses, sendable) depth 60 fits 30000

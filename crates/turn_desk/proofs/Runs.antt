@@ -14,8 +14,9 @@ use Rattle.plant_network.specs.Jobs.{told}
 use Rattle.plant_network.specs.Turns.{Admits, Allowed, IsAnswer, left_by, solve_of}
 use Rattle.plant_network.specs.Whole.{Stepped, Whole}
 use Rattle.plant_network.specs.declared.acts.Act.{Act}
-use Rattle.plant_network.specs.declared.acts.Act.TheVariants.{Do, Look, Ready, Finish, Map}
+use Rattle.plant_network.specs.declared.acts.Act.TheVariants.{Do, Look, Ready, Next, Finish, Map}
 use Rattle.plant_network.specs.declared.acts.Acted.{Acted}
+use Rattle.plant_network.specs.declared.acts.Acted.TheVariants as acted
 use Rattle.plant_network.specs.declared.acts.Acted.TheVariants.{Did, Looked, Found, Committed, Mapped}
 use Rattle.plant_network.specs.declared.acts.ActAnswer.{ActAnswer}
 use Rattle.run_laws.specs.PinHistories.{Leads, PinsAreNow, Told, known_in}
@@ -42,6 +43,7 @@ module _ (w next : Whole) where
   act_leads (Do e) (Did r) answer = event_leads e r answer.stepped
   act_leads (Look d k) (Looked r) answer = same_leads answer.0
   act_leads (Ready k) (Found r) answer = same_leads answer.0
+  act_leads (Next d behind) (acted.Next r) answer = same_leads answer.0
   act_leads (Finish x) (Committed r) answer = event_leads (solve_of x) (told r) answer.0.stepped
   act_leads (Map d) (Mapped r) answer = same_leads answer.0
   act_leads a r answer = absurd answer

@@ -5,6 +5,8 @@ use Rattle.std.specs.Arc.{arc_value}
 use Rattle.std.specs.List.{filter_map}
 use Rattle.std.proofs.lemmas.List.Elements.{filter_map-append}
 use Rattle.plant_network.specs.plant_model.Types.{As, NoMemory, Ask}
+use Rattle.plant_network.specs.network_links.declared.rest.Rest.{Rest}
+use Rattle.plant_network.specs.network_links.declared.rest.Rest.TheVariants.{Nothing}
 use Rattle.te_links.specs.Rows.{Rows}
 use Rattle.atomic_table.specs.Seated.{TableId}
 use Rattle.plant_lock.specs.declared.view.View.{View}
@@ -15,18 +17,22 @@ use Rattle.plant_lock.proofs.Turns.{last_allowed}
 use Rattle.plant_network.specs.plant_model.declared.event.Event.{Event}
 use Rattle.plant_network.specs.plant_model.declared.event.Event.TheVariants as event
 use Rattle.plant_network.specs.plant_model.declared.outcome.Outcome.{Outcome}
+use Rattle.plant_network.specs.plant_model.declared.outcome.Refused.{Refused}
 use Rattle.plant_network.specs.plant_model.Events.{Answered}
 use Rattle.plant_network.specs.Topologies.{Held, whole}
 use Rattle.plant_network.specs.Jobs.{IsAsked, IsSolvedBy}
-use Rattle.plant_network.specs.Turns.{Admits, Allowed, IsAnswer, IsShown, Warrants, left_by}
+use Rattle.plant_network.specs.Turns.{Admits, Allowed, IsAnswer, IsShown, Warrants, left_by, rest_for, taken_of}
 use Rattle.plant_network.specs.Whole as plant
 use Rattle.plant_network.specs.Whole.{Whole}
 use Rattle.plant_network.specs.declared.acts.Act.{Act}
-use Rattle.plant_network.specs.declared.acts.Act.TheVariants.{Do, Look, Ready, Finish}
+use Rattle.plant_network.specs.declared.acts.Act.TheVariants.{Do, Look, Ready, Next, Finish}
 use Rattle.plant_network.specs.declared.acts.Acted.{Acted}
+use Rattle.plant_network.specs.declared.acts.Acted.TheVariants as told
 use Rattle.plant_network.specs.declared.acts.Acted.TheVariants.{Did, Looked, Found, Committed}
 use Rattle.plant_network.specs.declared.acts.ActAnswer.{ActAnswer}
 use Rattle.plant_network.specs.pce_element.pce_common.declared.refusal.Refusal.{Refusal}
+use Rattle.plant_network.specs.pce_element.pce_common.declared.rounds.AskedJob.{AskedJob}
+use Rattle.plant_network.specs.pce_element.pce_common.declared.rounds.Behind.{Behind}
 use Rattle.run_laws.specs.PinHistories.{PinsAreNow}
 use Rattle.run_laws.specs.PinSteps.{KnowsPins}
 use Rattle.run_laws.proofs.PinLemmas.StepLemmas.{found_pin}
@@ -35,10 +41,11 @@ use Rattle.plant_network.specs.pce_parent.declared.work.Done.TheVariants as done
 use Rattle.plant_network.specs.pce_parent.declared.work.Work.{Work}
 use Rattle.plant_network.specs.pce_parent.declared.work.Work.TheVariants as work
 use Rattle.server_loops.specs.Desks as desk
-use Rattle.server_loops.specs.Desks.{Answer, Goes, call}
+use Rattle.server_loops.specs.Desks.{Answer, Goes, GoesTelling, call_telling}
+use Rattle.server_loops.specs.declared.desks.DeskRefused.{DeskRefused}
 use Rattle.server_loops.specs.declared.desks.DeskRefused.TheVariants.{Plant, Spent}
 use Rattle.server_loops.specs.Benches as bench
-use Rattle.turn_desk.specs.Desks.{IsDone, IsOneTurn, IsTurn, IsTurnBy, Makes, Rests, Stand, bench_call, benched_of, desk_call, desked_of, did_as, did_by}
+use Rattle.turn_desk.specs.Desks.{IsDone, IsOneTurn, IsTaken, IsTurn, IsTurnBy, IsTurnTelling, Makes, Rests, Stand, bench_call, benched_of, desk_call, desked_of, did_as, did_by, taken_as, told_of}
 use Rattle.turn_desk.specs.Histories.{Begins, known_by}
 use Rattle.turn_desk.proofs.Beginning.{none_is_now}
 use Rattle.turn_desk.proofs.Found.{own_is_seen, picked_from, split_at}
@@ -81,6 +88,10 @@ module _ (w next : Whole) where
   is_found k (Found r) is = (r, refl)
   is_found k a is = absurd is
 
+  is_told : (d : As) (behind : Behind) (a : Acted) → IsAnswer w (Next d behind) a next → (r : Option AskedJob) × (a ≡ told.Next r)
+  is_told d behind (told.Next r) is = (r, refl)
+  is_told d behind a is = absurd is
+
   is_looked : (d : As) (k : ℕ) (a : Acted) → IsAnswer w (Look d k) a next → (r : Result (Option Work) NoMemory) × (a ≡ Looked r)
   is_looked d k (Looked r) is = (r, refl)
   is_looked d k a is = absurd is
@@ -102,6 +113,9 @@ module _ (old new : Stand) (acted : Acted) where
 
   pub found_turn : (k : ℕ) → IsTurn (Ready k) (Ok acted) old new → (r : Option (As × ℕ)) × (acted ≡ Found r)
   found_turn k t = let a = answers (Ready k) t in is_found a.0 a.1 k acted a.2
+
+  pub told_turn : (d : As) (behind : Behind) → IsTurn (Next d behind) (Ok acted) old new → (r : Option AskedJob) × (acted ≡ told.Next r)
+  told_turn d behind t = let a = answers (Next d behind) t in is_told a.0 a.1 d behind acted a.2
 
   pub looked_turn : (d : As) (k : ℕ) → IsTurn (Look d k) (Ok acted) old new → (r : Result (Option Work) NoMemory) × (acted ≡ Looked r)
   looked_turn d k t = let a = answers (Look d k) t in is_looked a.0 a.1 d k acted a.2
@@ -135,7 +149,7 @@ module _ {C : Type 0} (f : Act → Acted → Option C) where
 -- ---- topologies
 
 -- what was known before a turn is known after it
-still_known : (old new : Stand) (act : Act) (turn : ActAnswer) → Makes old new act turn → (d : As) (n : ℕ) (g : Rows) → known_by old.start old.seen d n ≡ Some g → known_by new.start new.seen d n ≡ Some g
+pub still_known : (old new : Stand) (act : Act) (turn : ActAnswer) → Makes old new act turn → (d : As) (n : ℕ) (g : Rows) → known_by old.start old.seen d n ≡ Some g → known_by new.start new.seen d n ≡ Some g
 still_known old new act turn m d n g is =
     let first : known_by old.start m.before d n ≡ Some g = subst (λ (h : List (Act × ActAnswer)). known_by old.start h d n ≡ Some g) (sym m.begins.1) (known_grows old.start old.seen m.begins.0 d n g is) in
     let later : known_by old.start new.seen d n ≡ Some g = subst (λ (h : List (Act × ActAnswer)). known_by old.start h d n ≡ Some g) (sym m.seen) (known_grows old.start m.before ((act, turn) ∷ []) d n g first) in
@@ -144,34 +158,82 @@ still_known old new act turn m d n g is =
 pub none_spent : (n : ℕ) (s : Option ℕ) → s ≡ None → s ≡ Some n → ⊥
 none_spent n s none some = let both : None ≡ Some n = sym none ∙ some in cc
 
+pub rests_known : (old new : Stand) (number : ℕ) → Rests old new number → (d : As) (n : ℕ) (g : Rows) → known_by old.start old.seen d n ≡ Some g → known_by new.start new.seen d n ≡ Some g
+rests_known old new number r d n g known =
+    subst (λ (h : List (Act × ActAnswer)). known_by new.start h d n ≡ Some g) (sym r.seen) (subst (λ (s : Option Held). known_by s old.seen d n ≡ Some g) (sym r.start) known)
+
 -- ---- as a desk
 
-made_is : (e : Event) (r : Answered) → desk.made_by e (did_as r) ≡ call e (did_as r) ∷ []
-made_is e (Ok o) = refl
-made_is e (Err why) = refl
+-- an event that is no take tells nothing of what it leaves to do
+tells_nothing : (old new : Stand) (e : Event) (turn : ActAnswer) → taken_of (Do e) ≡ None → Makes old new (Do e) turn → turn.rest ≡ Nothing
+tells_nothing old new e turn none m =
+    let a = answered old new (Do e) turn m in
+    let w : Whole = replay left_by (whole a.0) m.before in
+    a.3.rest ∙ ap (λ (i : Option ℕ). rest_for i (left_by w (Do e) turn)) none
 
-none_is_spent : (r : Answered) → desk.spent_by (did_as r) ≡ None
-none_is_spent (Ok o) = refl
-none_is_spent (Err why) = refl
+module _ (old new : Stand) (e : Event) where
+  abbrev calls_of : List (Act × ActAnswer) → List desk.Call
+  calls_of es = filter_map (λ (x : Act × ActAnswer). desk_call x.0 x.1.acted x.1.rest) es
 
-desk_done : (old new : Stand) (e : Event) (r : Answered) → IsTurn (Do e) (Ok (Did r)) old new → Goes (desked_of old) (desked_of new) e (did_as r)
-desk_done old new e r t = record {
-  calls = one_call desk_call old new (Do e) (Did r) (call e (did_as r)) t refl ∙ ap (λ (l : List desk.Call). (desked_of old).calls ++ l) (sym (made_is e r));
-  spent = t.2.spent.1 ∙ sym (none_is_spent r);
-  stays = λ n was. absurd (none_spent n old.spent t.2.spent.0 was);
-}
+  told_call : (turn : ActAnswer) (r : Answered) → turn.acted ≡ Did r → Makes old new (Do e) turn → calls_of new.own ≡ calls_of old.own ++ call_telling e (did_as r) (told_of r turn.rest) ∷ []
+  told_call turn r is m =
+      ap calls_of m.own ∙ filter_map-append (λ (x : Act × ActAnswer). desk_call x.0 x.1.acted x.1.rest) old.own ((Do e, turn) ∷ [])
+      ∙ ap (λ (o : Option desk.Call). calls_of old.own ++ filter_map (λ (x : Option desk.Call). x) (o ∷ [])) (ap (λ (a : Acted). desk_call (Do e) a turn.rest) is)
 
-desk_rests : (old new : Stand) (e : Event) (number : ℕ) → Rests old new number → Goes (desked_of old) (desked_of new) e (Err (Spent number))
-desk_rests old new e number r = record {
-  calls = no_call desk_call old new number r;
-  spent = r.spent;
-  stays = λ n was. ap (λ (m : ℕ). Err (Spent m)) (sym (r.stays n was));
-}
+  desk_tells : (o : Outcome) (rest : Rest) (turn : ActAnswer) → turn.acted ≡ Did (Ok o) → turn.rest ≡ rest → Makes old new (Do e) turn → GoesTelling (desked_of old) (desked_of new) e (Ok o) rest
+  desk_tells o rest turn is told m = record {
+    calls = told_call turn (Ok o) is m ∙ ap (λ (x : Rest). calls_of old.own ++ call_telling e (Ok o) x ∷ []) told;
+    spent = m.spent.1;
+    stays = λ n was. absurd (none_spent n old.spent m.spent.0 was);
+  }
+
+  desk_refuses : (why : Refused) (rest : Rest) (turn : ActAnswer) → turn.acted ≡ Did (Err why) → Makes old new (Do e) turn → GoesTelling (desked_of old) (desked_of new) e (Err (Plant why)) rest
+  desk_refuses why rest turn is m = record {
+    calls = told_call turn (Err why) is m;
+    spent = m.spent.1;
+    stays = λ n was. absurd (none_spent n old.spent m.spent.0 was);
+  }
+
+  desk_rests : (number : ℕ) (rest : Rest) → Rests old new number → GoesTelling (desked_of old) (desked_of new) e (Err (Spent number)) rest
+  desk_rests number rest r = record {
+    calls = ap calls_of r.own ∙ sym (append-nil (calls_of old.own));
+    spent = r.spent;
+    stays = λ n was. ap (λ (m : ℕ). Err (Spent m)) (sym (r.stays n was));
+  }
+
+  desk_quiet : (answer : Answer) → taken_of (Do e) ≡ None → IsTurn (Do e) (did_by answer) old new → GoesTelling (desked_of old) (desked_of new) e answer Nothing
+  desk_quiet (Ok o) none t = desk_tells o Nothing t.0 t.1 (tells_nothing old new e t.0 none t.2) t.2
+  desk_quiet (Err (Plant why)) none t = desk_refuses why Nothing t.0 t.1 t.2
+  desk_quiet (Err (Spent number)) none r = desk_rests number Nothing r
 
 pub desk_goes : (old new : Stand) (e : Event) (answer : Answer) → IsTurn (Do e) (did_by answer) old new → Goes (desked_of old) (desked_of new) e answer
-desk_goes old new e (Ok o) t = desk_done old new e (Ok o) t
-desk_goes old new e (Err (Plant why)) t = desk_done old new e (Err why) t
-desk_goes old new e (Err (Spent number)) r = desk_rests old new e number r
+desk_goes old new (event.Take i) (Ok o) t = (t.0.rest, desk_tells old new (event.Take i) o t.0.rest t.0 t.1 refl t.2)
+desk_goes old new (event.Take i) (Err (Plant why)) t = (Nothing, desk_refuses old new (event.Take i) why Nothing t.0 t.1 t.2)
+desk_goes old new (event.Take i) (Err (Spent number)) r = (Nothing, desk_rests old new (event.Take i) number Nothing r)
+desk_goes old new e answer t = desk_quiet old new e answer refl t
+
+-- a take, with what it leaves to do
+module _ (old new : Stand) (i : ℕ) (acted : Acted) (rest : Rest) (t : IsTurnTelling (Do (event.Take i)) (Ok (acted, rest)) old new) where
+  abbrev pub as_turn : IsTurn (Do (event.Take i)) (Ok acted) old new
+  as_turn = (t.0, t.1, t.3)
+
+  pub take_goes : (r : Answered) → acted ≡ Did r → desk.Takes (desked_of old) (desked_of new) i (taken_as r rest)
+  take_goes (Ok o) is = (o, desk_tells old new (event.Take i) o rest t.0 (t.1 ∙ is) t.2 t.3)
+  take_goes (Err why) is = desk_refuses old new (event.Take i) why Nothing t.0 (t.1 ∙ is) t.3
+
+  taken_so : (r : Answered) → acted ≡ Did r → IsTaken (taken_as r rest) acted
+  taken_so (Ok o) is = (o, is)
+  taken_so (Err why) is = (Err why, is, refl)
+
+  pub take_turned : (r : Answered) → acted ≡ Did r → IsOneTurn (Do (event.Take i)) (IsTaken (taken_as r rest)) old new
+  take_turned r is = one_turn old new (Do (event.Take i)) (IsTaken (taken_as r rest)) acted (taken_so r is) as_turn
+
+module _ (old new : Stand) (i number : ℕ) (r : Rests old new number) where
+  pub take_rests : desk.Takes (desked_of old) (desked_of new) i (Err (Spent number))
+  take_rests = desk_rests old new (event.Take i) number Nothing r
+
+  pub take_unturned : IsOneTurn (Do (event.Take i)) (IsTaken (Err (Spent number))) old new
+  take_unturned = no_turn old new (Do (event.Take i)) (IsTaken (Err (Spent number))) number r
 
 pub desk_turns : (old new : Stand) (e : Event) (answer : Answer) → IsTurn (Do e) (did_by answer) old new → IsOneTurn (Do e) (IsDone answer) old new
 desk_turns old new e (Ok o) t = one_turn old new (Do e) (IsDone (Ok o)) (Did (Ok o)) (Ok o, refl, refl) t
@@ -188,11 +250,20 @@ bench_done old new act acted c t call = record {
   idle = λ n now. absurd (none_spent n new.spent t.2.spent.1 now);
 }
 
+-- a turn that is no call of a bench leaves its calls
+pub no_call_of : (act : Act) (acted : Acted) (old new : Stand) → IsTurn act (Ok acted) old new → bench_call act acted ≡ None → (benched_of new).calls ≡ (benched_of old).calls
+no_call_of act acted old new t none =
+    ap (picked bench_call) t.2.own ∙ filter_map-append (λ (e : Act × ActAnswer). bench_call e.0 e.1.acted) old.own ((act, t.0) ∷ [])
+    ∙ ap (λ (o : Option bench.Call). (benched_of old).calls ++ filter_map (λ (x : Option bench.Call). x) (o ∷ [])) (ap (bench_call act) t.1 ∙ none)
+    ∙ append-nil (benched_of old).calls
+
+pub rests_calls : (old new : Stand) (number : ℕ) → Rests old new number → (benched_of new).calls ≡ (benched_of old).calls
+rests_calls old new number r = no_call bench_call old new number r ∙ append-nil (benched_of old).calls
+
 pub bench_rests : (old new : Stand) (number : ℕ) (c : bench.Call) → Rests old new number → bench.IsIdle c → bench.Goes (benched_of old) (benched_of new) c
 bench_rests old new number c r idle = record {
   calls = no_call bench_call old new number r ∙ ap (λ (s : Option ℕ). (benched_of old).calls ++ bench.made_by s c) (sym r.spent);
-  topologies = λ at generation g known.
-      subst (λ (h : List (Act × ActAnswer)). known_by new.start h at generation ≡ Some g) (sym r.seen) (subst (λ (s : Option Held). known_by s old.seen at generation ≡ Some g) (sym r.start) known);
+  topologies = λ at generation g known. rests_known old new number r at generation g known;
   stays = λ n was. r.spent ∙ ap (λ (m : ℕ). Some m) (sym (r.stays n was));
   idle = λ n now. idle;
 }

@@ -20,7 +20,10 @@ use Rattle.plant_network.specs.declared.acts.Acted.TheVariants.{Did, Looked, Fou
 use Rattle.plant_network.specs.declared.acts.ActAnswer.{ActAnswer}
 use Rattle.plant_network.specs.pce_element.pce_common.declared.refusal.Refusal.{Refusal}
 use Rattle.plant_network.specs.pce_parent.declared.work.Done.{Done}
-use Rattle.server_loops.specs.Desks.{Answer, Call, Desked, call}
+use Rattle.plant_network.specs.network_links.declared.rest.Rest.{Rest}
+use Rattle.plant_network.specs.network_links.declared.rest.Rest.TheVariants.{Nothing}
+use Rattle.server_loops.specs.Desks.{Answer, Call, Desked, call_telling}
+use Rattle.server_loops.specs.declared.desks.DeskRefused.{DeskRefused}
 use Rattle.server_loops.specs.declared.desks.DeskRefused.TheVariants.{Plant, Spent}
 use Rattle.server_loops.specs.Benches as bench
 use Rattle.server_loops.specs.Benches.{Benched}
@@ -70,14 +73,19 @@ abbrev pub did_as : Answered → Answer
 did_as (Ok o) = Ok o
 did_as (Err why) = Err (Plant why)
 
+-- what an accepted take leaves to do
+abbrev pub told_of : Answered → Rest → Rest
+told_of (Ok o) rest = rest
+told_of (Err why) rest = Nothing
+
 -- an event, with its answer
-abbrev pub desk_call : Act → Acted → Option Call
-desk_call (Do e) (Did r) = Some (call e (did_as r))
-desk_call a r = None
+abbrev pub desk_call : Act → Acted → Rest → Option Call
+desk_call (Do e) (Did r) rest = Some (call_telling e (did_as r) (told_of r rest))
+desk_call a r rest = None
 
 -- the calls as a desk are the own entries that are events
 abbrev pub desked_of : Stand → Desked
-desked_of s = record { calls = filter_map (λ (e : Act × ActAnswer). desk_call e.0 e.1.acted) s.own; spent = s.spent }
+desked_of s = record { calls = filter_map (λ (e : Act × ActAnswer). desk_call e.0 e.1.acted e.1.rest) s.own; spent = s.spent }
 
 abbrev pub finished_for : Refused → Finished
 finished_for NoMemory = finished.NoMemory
@@ -127,6 +135,11 @@ abbrev pub IsTurn : Act → Result Acted ℕ → Stand → Stand → Type 0
 IsTurn act (Ok acted) old new = (turn : ActAnswer) × (turn.acted ≡ acted) × Makes old new act turn
 IsTurn act (Err number) old new = Rests old new number
 
+-- and what was told that the turn leaves to do
+abbrev pub IsTurnTelling : Act → Result (Acted × Rest) ℕ → Stand → Stand → Type 0
+IsTurnTelling act (Ok told) old new = (turn : ActAnswer) × (turn.acted ≡ told.0) × (turn.rest ≡ told.1) × Makes old new act turn
+IsTurnTelling act (Err number) old new = Rests old new number
+
 abbrev pub IsTurnBy : Option ℕ → Act → (Acted → Type 0) → Stand → Stand → Type 0
 IsTurnBy None act Is old new = (turn : ActAnswer) × Is turn.acted × Makes old new act turn
 IsTurnBy (Some number) act Is old new = Rests old new number
@@ -138,6 +151,16 @@ IsOneTurn act Is old new = IsTurnBy new.spent act Is old new
 -- the answer of a desk is that of the turn
 abbrev pub IsDone : Answer → Acted → Type 0
 IsDone answer acted = (r : Answered) × (acted ≡ Did r) × (answer ≡ did_as r)
+
+-- what is told of a take
+abbrev pub taken_as : Answered → Rest → Result Rest DeskRefused
+taken_as (Ok o) rest = Ok rest
+taken_as (Err why) rest = Err (Plant why)
+
+-- a take is accepted or refused as the turn was
+abbrev pub IsTaken : Result Rest DeskRefused → Acted → Type 0
+IsTaken (Ok rest) acted = (o : Outcome) × (acted ≡ Did (Ok o))
+IsTaken (Err why) acted = IsDone (Err why) acted
 
 -- what a worker is told is what the turn answered
 abbrev pub IsFinish : Finished → Acted → Type 0

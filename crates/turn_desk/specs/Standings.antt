@@ -1,4 +1,4 @@
--- Where a desk stood at a moment.
+-- The state of a desk at a moment.
 use Rattle.turn_desk.specs.Desks.{Stand, stand_at}
 use Rattle.turn_desk.specs.declared.standing.Standing.{Standing}
 

@@ -4,8 +4,10 @@ use Rattle.std.specs.List.{AllByRecursion, filter_map}
 use Rattle.plant_network.specs.plant_model.Types.{As}
 use Rattle.te_links.specs.Rows.{Rows}
 use Rattle.plant_network.specs.declared.acts.Act.{Act}
-use Rattle.plant_network.specs.declared.acts.Act.TheVariants.{Ready}
-use Rattle.plant_network.specs.declared.acts.Acted.TheVariants.{Found}
+use Rattle.plant_network.specs.declared.acts.Act.TheVariants.{Next}
+use Rattle.plant_network.specs.declared.acts.Acted.TheVariants as acted
+use Rattle.plant_network.specs.pce_element.pce_common.declared.rounds.AskedJob.{AskedJob}
+use Rattle.plant_network.specs.pce_element.pce_common.declared.rounds.Behind.{Behind}
 use Rattle.plant_network.specs.declared.acts.ActAnswer.{ActAnswer}
 use Rattle.server_loops.specs.Benches as bench
 use Rattle.server_loops.specs.Benches.{Benched, Call}
@@ -44,22 +46,30 @@ AreDone s notes = works (noted_calls notes) ≡ works (benched_of s).calls
 
 -- ---- questions
 
--- a turn that asked for a ready job
+-- a turn that asked for the next job of a member
 abbrev pub IsQuestion : Act × ActAnswer → Type 0
-IsQuestion e = (k : ℕ) × (answer : Option (As × ℕ)) × (e.0 ≡ Ready k) × (e.1.acted ≡ Found answer)
+IsQuestion e = (d : As) × (behind : Behind) × (answer : Option AskedJob) × (e.0 ≡ Next d behind) × (e.1.acted ≡ acted.Next answer)
+
+-- a job of that member
+abbrev pub job_at : As → Option AskedJob → Option (As × ℕ)
+job_at d None = None
+job_at d (Some job) = Some (d, job.number)
 
 -- the last of these turns found the job
 pub record FoundLast (job : As × ℕ) (made : List (Act × ActAnswer)) : Type 0 where
   pub before : List (Act × ActAnswer)
-  pub last : Act × ActAnswer
-  pub is : made ≡ before ++ last ∷ []
-  pub found : last.1.acted ≡ Found (Some job)
+  pub behind : Behind
+  pub asked : AskedJob
+  pub turn : ActAnswer
+  pub is : made ≡ before ++ (Next job.0 behind, turn) ∷ []
+  pub found : turn.acted ≡ acted.Next (Some asked)
+  pub number : asked.number ≡ job.1
 
 abbrev pub IsAnswer : Option (As × ℕ) → List (Act × ActAnswer) → Type 0
 IsAnswer None made = Unit {0}
 IsAnswer (Some job) made = FoundLast job made
 
--- The turns that were made asked for ready jobs, and the answer is that of the last.
+-- The turns that were made asked for jobs, and the answer is that of the last.
 pub record Asks (answer : Option (As × ℕ)) (old new : Stand) : Type 0 where
   pub made : List (Act × ActAnswer)
   pub own : new.own ≡ old.own ++ made

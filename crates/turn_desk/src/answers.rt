@@ -4,14 +4,15 @@ ghost use Rattle.dom_base.specs.declared.names.As.{As};
 ghost use Rattle.dom_base.specs.declared.names.NoMemory.{NoMemory};
 ghost use Rattle.plant_network.specs.plant_model.declared.outcome.Outcome.{Outcome};
 ghost use Rattle.plant_network.specs.plant_model.Events.{Answered};
-ghost use Rattle.plant_network.specs.declared.acts.Acted.TheVariants.{Did, Looked, Found, Committed};
+ghost use Rattle.plant_network.specs.declared.acts.Acted.TheVariants.{Did, Looked, Found, Next as Told, Committed};
+ghost use Rattle.plant_network.specs.pce_element.pce_common.declared.rounds.AskedJob.{AskedJob as Asked};
 ghost use Rattle.plant_network.specs.pce_element.pce_common.declared.refusal.Refusal.{Refusal};
 ghost use Rattle.plant_network.specs.pce_parent.declared.work.Done.{Done};
 ghost use Rattle.plant_network.specs.pce_parent.declared.work.Work.{Work};
 
 use dom_base::{As, NoMemory};
 use plant_network::model::{Outcome, Refused};
-use plant_network::{Acted, Done, Refusal, Work};
+use plant_network::{Acted, AskedJob, Done, Refusal, Work};
 
 /// What became of an event.
 pub(crate) fn did_in(acted: Acted) -> Result<Outcome, Refused>
@@ -31,6 +32,17 @@ pub(crate) fn found_in(acted: Acted) -> Option<(As, u64)>
 {
     match acted {
         Acted::Found(found) => found,
+        _ => unreachable!(),
+    }
+}
+
+/// The next job of a member.
+pub(crate) fn told_in(acted: Acted) -> Option<AskedJob>
+    requires { (r : Option Asked) × (acted ≡ Told r) }
+    ensures { acted ≡ Told result }
+{
+    match acted {
+        Acted::Next(found) => found,
         _ => unreachable!(),
     }
 }

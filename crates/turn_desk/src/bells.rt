@@ -95,7 +95,8 @@ impl Bells {
         }
     }
 
-    fn ring_peer(&self, peer: u32) {
+    // Rings the session of a peer.
+    pub(crate) fn ring_peer(&self, peer: u32) {
         if let Some(place) = self.peers.get(peer as usize)
             && let Some(bell) = place.get()
         {

@@ -2,15 +2,16 @@
 ghost use Rattle.std.specs.Prelude.{◌≡◌, IfOk, IfSome};
 ghost use Rattle.plant_network.specs.declared.acts.Act.TheVariants.{Do, Look as LookAt, Ready as AskReady, Finish as FinishOf};
 ghost use Rattle.plant_network.specs.declared.acts.Acted.TheVariants.{Looked, Found};
+ghost use Rattle.plant_network.specs.plant_model.declared.event.Event.TheVariants.{Take};
 ghost use Rattle.server_loops.specs.Desks as desk;
 ghost use Rattle.server_loops.specs.Benches as bench;
-ghost use Rattle.turn_desk.specs.Desks.{IsDone, IsFinish, IsOneTurn, IsTurn, benched_of, desked_of, did_by, finished_as, stand_of};
+ghost use Rattle.turn_desk.specs.Desks.{IsDone, IsFinish, IsOneTurn, IsTaken, IsTurn, benched_of, desked_of, did_by, finished_as, stand_of, taken_as};
 
 use crate::answers::{committed_in, did_in, found_in, looked_in};
 use crate::desk::TurnDesk;
 use dom_base::{As, NoMemory};
 use plant_network::model::{Event, Outcome, Refused};
-use plant_network::{Act, Done, Refusal, Work};
+use plant_network::{Act, Done, Refusal, Rest, Work};
 use server_loops::{Bench, Desk, DeskRefused, Finished};
 use std::sync::Wait;
 use std::time::Clock;
@@ -33,6 +34,16 @@ fn own_by(event: &Event, own: Option<u32>) -> Option<u32> {
     match event {
         Event::Open(peer, _holder) => Some(*peer),
         _ => own,
+    }
+}
+
+// What a session is told of a take.
+fn taken(answer: Result<Outcome, Refused>, rest: Rest) -> Result<Rest, DeskRefused>
+    ensures { result ≡ taken_as answer rest }
+{
+    match answer {
+        Ok(_) => Ok(rest),
+        Err(why) => Err(DeskRefused::Plant(why)),
     }
 }
 
@@ -67,6 +78,16 @@ impl<R: Wait + Clock> Desk for TurnDesk<R> {
         ensures turn { IsOneTurn (Do event) (IsDone result) (stand_of self.old) (stand_of self.new) }
     {
         self.make(event)
+    }
+
+    fn take(&mut self, peer: u32) -> Result<Rest, DeskRefused>
+        ensures takes { desk.Takes (desked_of (stand_of self.old)) (desked_of (stand_of self.new)) peer result }
+        ensures turn { IsOneTurn (Do (Take peer)) (IsTaken result) (stand_of self.old) (stand_of self.new) }
+    {
+        match self.turn_telling(Act::Do(Event::Take(peer))) {
+            Ok((acted, rest)) => taken(did_in(acted), rest),
+            Err(number) => Err(DeskRefused::Spent(number)),
+        }
     }
 
     fn spent(&self) -> Option<u64> {

@@ -29,6 +29,7 @@ fn mapped_in(acted: Acted) -> Found
         Acted::Did(_) => unreachable!(),
         Acted::Looked(_) => unreachable!(),
         Acted::Found(_) => unreachable!(),
+        Acted::Next(_) => unreachable!(),
         Acted::Committed(_) => unreachable!(),
     }
 }

@@ -8,6 +8,7 @@ mod answers;
 mod bells;
 mod calls;
 mod chart;
+mod circle;
 mod claims;
 mod desk;
 mod finding;
@@ -19,6 +20,7 @@ mod turns;
 mod workbench;
 mod working;
 
+pub use circle::Circle;
 pub use desk::TurnDesk;
 pub use notes::Note;
 pub use standing::Standing;

@@ -3,7 +3,7 @@ ghost use Rattle.std.specs.Prelude.{◌≡◌, ◌-◌, ◌<◌, IfErr, IfOk, On
 ghost use Rattle.std.specs.Arc.{arc_value};
 ghost use Rattle.plant_lock.specs.Seats.{IsAt, MayDo, shares_of, view_of};
 ghost use Rattle.plant_lock.specs.declared.turnstile.SplitError.TheVariants.{NoSeat};
-ghost use Rattle.turn_desk.specs.Desks.{IsOpened, IsTurn, shares_at, split_from, stand_at, stand_of};
+ghost use Rattle.turn_desk.specs.Desks.{IsOpened, IsTurn, IsTurnTelling, shares_at, split_from, stand_at, stand_of};
 ghost use Rattle.turn_desk.specs.Histories.{Begins, NoneIsPending};
 ghost use Rattle.plant_network.specs.Topologies.{whole};
 
@@ -12,7 +12,7 @@ use crate::desk::TurnDesk;
 use dom_base::{As, NoMemory};
 use dom_edge::Bell;
 use plant_lock::{Spent, SplitError, TurnSeat, Turnstile};
-use plant_network::{Act, Acted, Plant, Stirred};
+use plant_network::{Act, Acted, Plant, Rest, Stirred};
 use std::alloc::Global;
 use std::sync::{Arc, Wait};
 use std::time::Clock;
@@ -61,10 +61,13 @@ impl<R: Wait + Clock> TurnDesk<R> {
         }
     }
 
-    // Rings whom a turn of this desk stirred.
-    fn ring(&self, stirred: &Stirred) {
+    // Rings whom a turn of this desk stirred; and this desk's own session, where that is not to wait before it takes more.
+    fn ring(&self, stirred: &Stirred, rest: Rest) {
         if let Some(bells) = &self.bells {
             bells.ring(stirred, self.own);
+            if let (Rest::Backlog, Some(peer)) = (rest, self.own) {
+                bells.ring_peer(peer);
+            }
         }
     }
 
@@ -73,13 +76,24 @@ impl<R: Wait + Clock> TurnDesk<R> {
         requires { MayDo self.old.seat act }
         ensures { IsTurn act result (stand_of self.old) (stand_of self.new) }
     {
+        match self.turn_telling(act) {
+            Ok((acted, _rest)) => Ok(acted),
+            Err(number) => Err(number),
+        }
+    }
+
+    // The same, with what a take leaves to do for its peer.
+    pub(crate) fn turn_telling(&mut self, act: Act) -> Result<(Acted, Rest), u64>
+        requires { MayDo self.old.seat act }
+        ensures { IsTurnTelling act result (stand_of self.old) (stand_of self.new) }
+    {
         if let Some(number) = self.spent_at {
             return Err(number);
         }
         match self.lock.turn(&self.rt, &mut self.seat, act) {
             Ok((_place, turn)) => {
-                self.ring(&turn.stirred);
-                Ok(turn.acted)
+                self.ring(&turn.stirred, turn.rest);
+                Ok((turn.acted, turn.rest))
             }
             Err(Spent(number)) => {
                 self.spent_at = Some(number);

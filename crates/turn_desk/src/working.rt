@@ -7,6 +7,7 @@ ghost use Rattle.turn_desk.specs.Desks.{IsFinish, IsOneTurn, stand_of};
 ghost use Rattle.turn_desk.specs.Works.{Asks, noted_call, noted_calls};
 ghost use Rattle.turn_desk.specs.WorkBenches.{bench_of, desk_of};
 
+use crate::circle::Circle;
 use crate::desk::TurnDesk;
 use crate::notes::Note;
 use crate::workbench::WorkBench;
@@ -16,7 +17,11 @@ use plant_network::{Done, Work};
 use server_loops::{Bench, Finished};
 use std::snapshot::Snapshot;
 use std::sync::Wait;
-use std::time::Clock;
+use std::thread;
+use std::time::{Clock, Duration};
+
+// How long a worker rests that lacked memory, in milliseconds.
+const REST_MILLIS: u64 = 100;
 
 // One note more, unless the desk is spent by then.
 fn note(noted: &mut Noted<Note>, spent: Option<u64>, note: &Note)
@@ -28,8 +33,8 @@ fn note(noted: &mut Noted<Note>, spent: Option<u64>, note: &Note)
 }
 
 impl<R: Wait + Clock> WorkBench<R> {
-    /// A bench for the worker of this index over a desk that has made no turn.
-    pub fn new(desk: TurnDesk<R>, index: u32) -> Self
+    /// A bench for the worker of this index over a desk that has made no turn. The worker goes round this circle.
+    pub fn new(desk: TurnDesk<R>, index: u32, circle: Circle) -> Self
         requires new { (stand_of desk).own ≡ [] }
         ensures calls { (bench_of result).calls ≡ [] }
         ensures desk { desk_of result ≡ stand_of desk }
@@ -37,6 +42,7 @@ impl<R: Wait + Clock> WorkBench<R> {
         WorkBench {
             desk,
             worker: index as usize,
+            circle,
             noted: Noted::new(),
         }
     }
@@ -44,6 +50,11 @@ impl<R: Wait + Clock> WorkBench<R> {
     /// The job that this worker was at, if it was at one, is anybody's.
     pub fn let_go(&self) {
         self.desk.let_go(self.worker);
+    }
+
+    /// Waits a tenth of a second, so that a worker that lacks memory keeps no processor busy.
+    pub fn rest(&self) {
+        thread::sleep(&self.desk.rt, Duration::from_millis(REST_MILLIS));
     }
 }
 
@@ -56,7 +67,7 @@ impl<R: Wait + Clock> Bench for WorkBench<R> {
         ensures goes { bench.Goes (bench_of self.old) (bench_of self.new) (bench.Ready k result) }
         ensures asks { Asks result (desk_of self.old) (desk_of self.new) }
     {
-        let found = self.desk.find(self.worker);
+        let found = self.desk.find(self.worker, &mut self.circle);
         note(&mut self.noted, self.desk.spent_at, &Note::Asked(k, found));
         if found.is_none() {
             self.desk.wait_for_jobs(self.worker);

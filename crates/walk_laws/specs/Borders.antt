@@ -74,7 +74,7 @@ pub record IsBorderSeed (g : Rows) (q : Query) (next : As) (down : List Beyond) 
   pub exit : s.exit ≡ o.link.far
   pub within : s.cost ≤ q.cap
 
--- the seeds of a job: those of its out links, and one for each that has one
+-- the seeds of a job: each is that of an out link, and each out link that has a seed gives it
 pub record AreBorderSeeds (g : Rows) (q : Query) (next : As) (down : List Beyond) (seeds : List Seed) : Type 0 where
   pub each : (s : Seed) → Contains seeds s → (o : OutLink) × IsBorderSeed g q next down o s
   pub every : (o : OutLink) (s : Seed) → IsBorderSeed g q next down o s → Contains seeds s

@@ -1,4 +1,4 @@
--- What the conditions of a certificate are worth: they hold exactly of the least labels, and their path is a walk of the source's label.
+-- What a certificate shows: its conditions hold exactly for the least labels, and its path is a walk of the source's label.
 use Rattle.std.specs.Prelude.{◌≡◌, ◌+◌, List, map, Contains, Some}
 use Rattle.dom_base.specs.declared.addr.Addr.{Addr}
 use Rattle.dom_base.specs.declared.link.Link.{Link}

@@ -59,7 +59,7 @@ pub fn join_ends()
     ensures { JoinEnds }
 {}
 
-/// The law of composition in the last domain of which rows were asked elsewhere: over any rows that
+/// The law of composition in a last domain with rows from beyond it: over any rows that
 /// were told of the domain beyond, the join is the least cost of a walk that ends over one of them.
 pub fn join_reports()
     ensures { JoinReports }
@@ -70,8 +70,8 @@ pub fn segment_is_walk()
     ensures { SegmentIsWalk }
 {}
 
-/// A law: a label has one chosen segment, where far addresses tell links apart; so what shows it is
-/// one text.
+/// A law: where no two links have one far address, a label has one chosen segment; so one text shows
+/// it.
 pub fn one_segment()
     ensures { OneSegment }
 {}

@@ -1,4 +1,4 @@
-//! What is found in border graphs.
+//! Solutions of border graphs.
 mod graphs;
 
 use crate::parts::{cost, is_at, link, row, solved};

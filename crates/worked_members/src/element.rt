@@ -1,4 +1,4 @@
-//! An element that is told what the rows of a table say.
+//! An element that takes the messages and events in the rows of a table.
 ghost use Rattle.std.specs.Prelude.{◌≡◌, ◌≤◌, IfOk, IfSome, OnOk};
 
 mod endings;
@@ -96,7 +96,7 @@ fn load(alloc: Global, element: &mut Element<Topologies>, text: &[u8]) -> Result
     }
 }
 
-// A row: who tells it what, and what is said to whom.
+// A row: a message to the element, and the messages that it sends then, with their receivers.
 fn take_row(
     alloc: Global,
     element: &mut Element<Topologies>,

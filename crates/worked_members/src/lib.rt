@@ -1,5 +1,5 @@
-//! Tables of tests: octets of routes, exclusions, objects and messages, each with what it is read as and written as again; what an
-//! element and the parent are told and say; and border graphs with their answers: all worked out by hand. They stand above the crates that they
+//! Tables of tests: octets of routes, exclusions, objects and messages, each with its reading and what that is written as; messages that an
+//! element and the parent take and send; and border graphs with their answers: all worked out by hand. They stand above the crates that they
 //! test, so that none of these is proved once more for its tests.
 #![tactic(auto)]
 

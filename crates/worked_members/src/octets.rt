@@ -212,7 +212,7 @@ fn answer(alloc: Global, verb: &[u8], octets: &[u8]) -> Result<Vec<u8>, Fail> {
     }
 }
 
-// What stands before the first blank of a line, and what behind it.
+// The text before the first blank of a line, and the text behind it.
 fn cut(line: &[u8]) -> Option<(&[u8], &[u8])> {
     let place = line.iter().position(|c| *c == b' ')?;
     Some((&line[..place], &line[place + 1..]))

@@ -1,4 +1,4 @@
-//! A parent that is told what the rows of a table say.
+//! A parent that takes the messages and events in the rows of a table.
 ghost use Rattle.std.specs.Prelude.{◌≡◌, ◌<◌, All, AllPairs, IfOk};
 ghost use Rattle.dom_base.specs.declared.names.As.{As as Domain};
 ghost use Rattle.pce_parent.specs.Solution.{IsWeighed};
@@ -150,7 +150,7 @@ fn given_up(alloc: Global, parent: &mut Parent) -> Result<BorderSolved, Fail> {
     }
 }
 
-// What is said once a job is answered.
+// The messages that are sent once a job is answered.
 fn answered(alloc: Global, parent: &mut Parent, solved: BorderSolved) -> Result<Vec<Said>, Fail> {
     let plan = plan_of(parent, solved)?;
     let said = said_by(alloc, plan.outputs());

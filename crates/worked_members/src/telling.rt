@@ -1,4 +1,4 @@
-//! Messages that are told and said.
+//! Messages that are taken and sent.
 ghost use Rattle.std.specs.Prelude.{IfOk, IsTrue};
 ghost use Rattle.pce_common.specs.Messages.{HasOnePart};
 

@@ -1,4 +1,4 @@
-//! What the words of a row stand for.
+//! The meaning of the words of a row.
 use dom_base::{Addr, As, Peer, read_colour, read_number};
 use line_text::{Lines, Words, line_count, read_hex};
 use std::alloc::Global;

@@ -9,6 +9,7 @@ use ted_watch::{Shown, Watched, Watcher, open_watch, serve_watch};
 
 // What comes in, in pieces that `/` parts; which read and which write fails; how many turns there are; how it ends; and what
 // is told. `;` stands for a line end, and `^` for a CR. A topology of AS 1 is published, of three nodes and four links. There
+// are connections that are quiet for six reads, and for five again and again. There
 // are lines that are cut anywhere, with a quiet read and bytes behind the last line end, and lines of 63 and 64 bytes; of
 // those that are cut each read fails in turn, and then each write.
 const ROWS: &[u8] = b"1;2;x;|-|-|10|peer end|1 generation 1 nodes 3 links 4;2 none;bad line;
@@ -20,6 +21,9 @@ const ROWS: &[u8] = b"1;2;x;|-|-|10|peer end|1 generation 1 nodes 3 links 4;2 no
 1;1;|-|1|10|write fault|1 generation 1 nodes 3 links 4;
 1;//1;|-|-|2|turns|1 generation 1 nodes 3 links 4;
 1;|-|-|0|turns|
+1;///////1;|-|-|20|silent|1 generation 1 nodes 3 links 4;
+1;//////2/////;//////x;|-|-|30|peer end|1 generation 1 nodes 3 links 4;2 none;bad line;
+1;///////|-|-|6|turns|1 generation 1 nodes 3 links 4;
 1/;2^/;//x/;1|0|-|10|read fault|
 1/;2^/;//x/;1|1|-|10|read fault|
 1/;2^/;//x/;1|2|-|10|read fault|1 generation 1 nodes 3 links 4;
@@ -47,6 +51,7 @@ fn name(end: Watched) -> &'static [u8] {
         Watched::LongLine => b"long line",
         Watched::ReadFault => b"read fault",
         Watched::WriteFault => b"write fault",
+        Watched::Silent => b"silent",
         Watched::Turns => b"turns",
         _ => b"other",
     }

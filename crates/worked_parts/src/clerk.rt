@@ -4,7 +4,7 @@ ghost use Rattle.std.specs.Vec.{vec_capacity};
 
 use dom_base::Bytes;
 use server_loops::model::{Event, Outcome, Refused};
-use server_loops::{Desk, DeskRefused, Guide};
+use server_loops::{Desk, DeskRefused, Guide, Rest};
 use std::alloc::Global;
 use std::mem::replace;
 use std::snapshot::Snapshot;
@@ -17,11 +17,15 @@ pub const GREETING: [u8; 12] = [
 // The type of a message after which the desk sends nothing more.
 const CLOSE: u8 = 7;
 
-// An event that was made, with its answer.
+// How many bytes may wait for the peer while more of its messages are taken.
+const BACKLOG_MAX: usize = 40;
+
+// An event that was made, with its answer, and what a take leaves to do.
 #[derive(Drop)]
 struct Note {
     event: Event,
     answer: Snapshot<Result<Outcome, DeskRefused>>,
+    rest: Rest,
 }
 
 // What was fed, how much of it was taken, and what is to be sent.
@@ -40,6 +44,12 @@ fn message_len(rest: &[u8]) -> Option<usize> {
     Some(usize::from(header[2]) * 256 + usize::from(header[3]))
 }
 
+// The first message that was fed and not yet taken.
+fn first_of(fed: &[u8], taken: usize) -> Option<&[u8]> {
+    let rest = fed.get(taken..)?;
+    rest.get(..message_len(rest)?)
+}
+
 impl Mail {
     fn keep(room: &mut Vec<u8>, bytes: &[u8]) -> Result<Outcome, Refused> {
         match room.extend_from_slice(bytes) {
@@ -48,11 +58,16 @@ impl Mail {
         }
     }
 
+    fn rest(&self) -> Rest {
+        match first_of(&self.fed, self.taken) {
+            None => Rest::Nothing,
+            Some(_) if self.waiting.len() > BACKLOG_MAX => Rest::Backlog,
+            Some(_) => Rest::Messages,
+        }
+    }
+
     fn take(&mut self) -> Result<Outcome, Refused> {
-        let Some(rest) = self.fed.get(self.taken..) else {
-            return Err(Refused::NothingToCarry);
-        };
-        let Some(message) = rest.get(..message_len(rest).ok_or(Refused::NothingToCarry)?) else {
+        let Some(message) = first_of(&self.fed, self.taken) else {
             return Err(Refused::NothingToCarry);
         };
         self.taken = self.taken.saturating_add(message.len());
@@ -118,12 +133,16 @@ impl Clerk {
     }
 
     // Puts a note behind the others.
-    fn note(&mut self, event: Event, answer: Snapshot<Result<Outcome, DeskRefused>>)
+    fn note(&mut self, event: Event, answer: Snapshot<Result<Outcome, DeskRefused>>, rest: Rest)
         requires { vec_len self.old.notes < vec_capacity self.old.notes }
-        ensures notes { self.new.notes.items ≡ self.old.notes.items ++ record { event = event; answer = answer } ∷ [] }
+        ensures notes { self.new.notes.items ≡ self.old.notes.items ++ record { event = event; answer = answer; rest = rest } ∷ [] }
         ensures spent { self.new.spent_at ≡ self.old.spent_at }
     {
-        self.notes.push_reserved(Note { event, answer });
+        self.notes.push_reserved(Note {
+            event,
+            answer,
+            rest,
+        });
     }
 
     /// Appends the letters of the events that were made.
@@ -138,7 +157,7 @@ impl Clerk {
 impl Desk for Clerk {
     ghost use Rattle.std.specs.Prelude.{map};
 
-    ghost desked = { λ d. record { calls = map (λ n. record { event = n.event; answer = n.answer.value }) d.notes.items; spent = d.spent_at } };
+    ghost desked = { λ d. record { calls = map (λ n. record { event = n.event; answer = n.answer.value; rest = n.rest }) d.notes.items; spent = d.spent_at } };
 
     fn act(&mut self, event: Event) -> Result<Outcome, DeskRefused> {
         if let Some(number) = self.spent_at {
@@ -151,13 +170,35 @@ impl Desk for Clerk {
         match self.mail.answer(&event) {
             Ok(outcome) => {
                 let answer = Ok(outcome);
-                self.note(event, Snapshot::of(&answer));
+                self.note(event, Snapshot::of(&answer), Rest::Nothing);
                 answer
             }
             Err(why) => {
                 let answer = Err(DeskRefused::Plant(why));
-                self.note(event, Snapshot::of(&answer));
+                self.note(event, Snapshot::of(&answer), Rest::Nothing);
                 answer
+            }
+        }
+    }
+
+    fn take(&mut self, peer: u32) -> Result<Rest, DeskRefused> {
+        if let Some(number) = self.spent_at {
+            return Err(DeskRefused::Spent(number));
+        }
+        if self.notes.reserve(1).is_err() {
+            self.spent_at = Some(0);
+            return Err(DeskRefused::Spent(0));
+        }
+        match self.mail.take() {
+            Ok(outcome) => {
+                let rest = self.mail.rest();
+                self.note(Event::Take(peer), Snapshot::of(&Ok(outcome)), rest);
+                Ok(rest)
+            }
+            Err(why) => {
+                let answer = Err(DeskRefused::Plant(why));
+                self.note(Event::Take(peer), Snapshot::of(&answer), Rest::Nothing);
+                Err(DeskRefused::Plant(why))
             }
         }
     }

@@ -1,4 +1,4 @@
-//! What no script over the built program shows of the parts of a network and of its server: numbers of path keys that go
+//! Tests of what no script over the built program shows, in the parts of a network and of its server: numbers of path keys that go
 //! round, sessions over links with faults, what threads do with a value under its lock, with jobs that they share and with
 //! what is shown to them, which values may go to them, what operators are answered, and calls that the program does not make.
 #![tactic(auto)]

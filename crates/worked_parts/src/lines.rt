@@ -1,5 +1,5 @@
 //! An operator's lines over files in memory: each kind of line and answer, cut off by a chart that is spent, by few turns,
-//! and by each read and each write that fails.
+//! and by each read that fails; and all done where each write in turn fails.
 ghost use Rattle.std.specs.Prelude.{◌≡◌, []};
 ghost use Rattle.ted_watch.specs.Watch.{published};
 
@@ -111,7 +111,6 @@ fn name(end: Operated) -> &'static [u8] {
     match end {
         Operated::End => b"end",
         Operated::ReadFault => b"read fault",
-        Operated::WriteFault => b"write fault",
         Operated::Turns => b"turns",
         Operated::Spent(7) => b"spent",
         _ => b"other",
@@ -172,18 +171,19 @@ fn count_lines(text: &[u8]) -> u64 {
     text.iter().filter(|c| **c == b'\n').count() as u64
 }
 
-// So many lines, with their ends.
-fn first_lines(text: &[u8], count: u64) -> &[u8] {
+// All lines but that of this place.
+fn without_line(alloc: Global, text: &[u8], which: u64) -> Option<Vec<u8>> {
+    let mut kept = Vec::new(alloc);
     let mut ends = 0u64;
-    for (place, byte) in text.iter().enumerate() {
-        if ends == count {
-            return text.get(..place).unwrap_or(text);
+    for byte in text {
+        if ends != which {
+            kept.push(*byte).ok()?;
         }
         if *byte == b'\n' {
             ends = ends.saturating_add(1);
         }
     }
-    text
+    Some(kept)
 }
 
 // What a row says.
@@ -236,9 +236,10 @@ fn each_input_is_answered_as_its_row_says(rt: HostRuntime) -> Result<(), Fail> {
                 },
             )
             .ok_or("memory")?;
+            let text = without_line(alloc, &want.text, k).ok_or("memory")?;
             assert_eq!(rt;
-                (told.text.as_slice(), told.end),
-                (first_lines(&want.text, k), Operated::WriteFault)
+                (told.text.as_slice(), name(told.end), told.last),
+                (text.as_slice(), want.end, want.last)
             );
         }
     }

@@ -19,20 +19,21 @@ const STREAM: [u8; 56] = [
 
 // Sizes of pieces of the stream, of which the last may be left out and an empty one is a read to which nothing came;
 // the read and the write that fail; how many turns there are; and then the events in short, how many bytes were
-// written, and the end.
-const ROWS: &[u8] = b"56|-|-|9|odftttttds 56 closed
-0 56|-|-|9|odtdftttttds 56 closed
-12 4 20|-|-|9|odfttdfttdftds 28 peer end
+// written, and the end. Where the request was taken and a Close waits, more than 40 bytes are to be handed out first.
+const ROWS: &[u8] = b"56|-|-|9|odftttds 56 peer end
+56 0|-|-|9|odftttdtds 56 closed
+0 56 0|-|-|9|odtdftttdtds 56 closed
+12 4 20|-|-|9|odftdftdftds 28 peer end
 12 4 28|-|-|0|os 0 turns
-12 4 28|-|-|2|odfttdftts 24 turns
+12 4 28|-|-|2|odftdfts 24 turns
 12 4 28|0|-|9|ods 12 read fault
-12 4 28|1|-|9|odfttds 24 read fault
-12 4 28|2|-|9|odfttdfttds 28 read fault
-12 4 28|3|-|9|odfttdfttdfttds 56 read fault
+12 4 28|1|-|9|odftds 24 read fault
+12 4 28|2|-|9|odftdftds 28 read fault
+12 4 28|3|-|9|odftdftdftds 56 read fault
 12 4 28|-|0|9|ods 0 write fault
-12 4 28|-|1|9|odfttds 12 write fault
-12 4 28|-|2|9|odfttdfttds 24 write fault
-12 4 28|-|3|9|odfttdfttdfttds 28 write fault";
+12 4 28|-|1|9|odftds 12 write fault
+12 4 28|-|2|9|odftdftds 24 write fault
+12 4 28|-|3|9|odftdftdftds 28 write fault";
 
 // The stream in pieces of these sizes.
 fn pieces(alloc: Global, sizes: &[usize]) -> Option<List<Bytes>> {
@@ -152,7 +153,7 @@ fn any_pieces_write_the_same(rt: HostRuntime) -> Result<(), Fail> {
     let mut told = run(rt.alloc(), &[1; 56], None, None, 99).ok_or("other bytes")?;
     assert!(rt; told.ends_with(b" 56 closed"));
     for cut in 0..=STREAM.len() {
-        told = run(rt.alloc(), &[cut, STREAM.len() - cut], None, None, 9).ok_or("other bytes")?;
+        told = run(rt.alloc(), &[cut, STREAM.len() - cut, 0], None, None, 9).ok_or("other bytes")?;
         assert!(rt; told.ends_with(b" 56 closed"));
     }
     Ok(())

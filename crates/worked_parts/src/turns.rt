@@ -16,7 +16,7 @@ use std::thread::{join, sleep};
 use std::time::{Clock, Duration};
 use te_links::Topology;
 use te_text::read_topology;
-use turn_desk::{TurnDesk, WorkBench};
+use turn_desk::{Circle, TurnDesk, WorkBench};
 
 const AT: As = As(1);
 
@@ -245,13 +245,15 @@ fn two_workers_at_one_lock_solve_beside_each_other(rt: HostRuntime) -> Result<()
 // A bench for a worker, over a desk that has made no turn.
 fn bench<R: Wait + Clock + Drop>(
     rt: R,
+    alloc: Global,
     desk: &mut TurnDesk<R>,
     index: u32,
 ) -> Option<WorkBench<R>> {
+    let circle = Circle::new(alloc, &[AT]).ok()?;
     let Ok(desk) = desk.split(rt) else {
         return None;
     };
-    Some(WorkBench::new(desk, index))
+    Some(WorkBench::new(desk, index, circle))
 }
 
 // The jobs of two requests are ready. Each of two workers is told another one, and the third none until the first lets its own go.
@@ -259,9 +261,9 @@ fn bench<R: Wait + Clock + Drop>(
 fn a_job_that_a_worker_is_at_is_no_other_s(rt: HostRuntime) -> Result<(), Fail> {
     let alloc = rt.alloc();
     let mut desk = open(rt, alloc, SETTINGS, 4).ok_or("a desk")?;
-    let mut first = bench(rt, &mut desk, 0).ok_or("a bench")?;
-    let mut second = bench(rt, &mut desk, 1).ok_or("another")?;
-    let mut third = bench(rt, &mut desk, 2).ok_or("a third")?;
+    let mut first = bench(rt, alloc, &mut desk, 0).ok_or("a bench")?;
+    let mut second = bench(rt, alloc, &mut desk, 1).ok_or("another")?;
+    let mut third = bench(rt, alloc, &mut desk, 2).ok_or("a third")?;
     ask(alloc, &mut desk).ok_or("two requests")?;
     assert_eq!(rt;
         (first.ready(0), second.ready(1)),

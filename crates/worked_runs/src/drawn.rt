@@ -1,4 +1,4 @@
-//! What the answers to so many requests come to, where they ask for no bandwidth and where they ask for some.
+//! The tally of the answers to many requests, where they ask for no bandwidth and where they ask for some.
 use plant_client::{Demand, play, tell_tally};
 use std::alloc::Global;
 use std::test::Fail;

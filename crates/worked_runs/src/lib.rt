@@ -1,4 +1,4 @@
-//! What no run of the built program shows: runs in which a call of the outside fails, requests that ask for no
+//! Tests of what no run of the built program shows: runs in which a call of the outside fails, requests that ask for no
 //! bandwidth, and answers that none of its clients hears.
 #![tactic(auto)]
 

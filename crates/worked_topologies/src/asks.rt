@@ -1,4 +1,4 @@
-//! Asks of small domains: what is said of each anew, by a cache, and in its border table.
+//! Asks of small domains: the answers to each by a search, by a cache, and in its border table.
 mod answers;
 mod reading;
 mod tables;
@@ -50,7 +50,7 @@ fn put_solution(cache: &mut Cache, job: &Job, text: &mut Vec<u8>) -> Result<u64,
     Ok(reads)
 }
 
-// Whether a search of its own says the same of a job.
+// Whether a search of its own answers the same for a job.
 fn is_said_anew(alloc: Global, job: &Job, text: &[u8]) -> Result<bool, NoMemory> {
     let mut anew = Vec::new(alloc);
     put_answer(&solve(alloc, job)?, &mut anew)?;
@@ -67,7 +67,7 @@ fn put_reads(alloc: Global, job: &Job, reads: u64, text: &mut Vec<u8>) -> Result
     put_table(alloc, job, text)
 }
 
-// What is said of a job: its solution, which the cache and a search of its own give alike, and what
+// The answer to a job: its solution, which the cache and a search of its own give alike, and what
 // `put_reads` puts.
 fn said(alloc: Global, cache: &mut Cache, job: &Job) -> Result<Vec<u8>, Fail>
     requires { IsGoodForAll (arc_value job.now.topology) cache.old }
@@ -82,7 +82,7 @@ fn said(alloc: Global, cache: &mut Cache, job: &Job) -> Result<Vec<u8>, Fail>
     Ok(text)
 }
 
-// What is said of the ask in a line.
+// The answer to the ask in a line.
 fn line_said(
     alloc: Global,
     cache: &mut Cache,
@@ -97,14 +97,14 @@ fn line_said(
     said(alloc, cache, &Job { ask, topology })
 }
 
-// What is left of a table behind a line and what is said of it; none where something else stands there.
+// The rest of a table behind a line and its answer; none where something else stands there.
 fn behind<'a>(rest: &'a [u8], line: &[u8], said: &[u8]) -> Option<&'a [u8]> {
     rest.strip_prefix(b"\n".as_slice())?
         .strip_prefix(line)?
         .strip_prefix(said)
 }
 
-// The line of the first ask of which something else is said, one behind the other on one cache; 0 where
+// The line of the first ask with another answer, one behind the other on one cache; 0 where
 // more is in the table.
 fn first_odd(
     alloc: Global,

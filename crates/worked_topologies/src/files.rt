@@ -9,7 +9,7 @@ use std::fs;
 use std::test::Fail;
 use std::time::{SystemTime, UNIX_EPOCH};
 
-// What a call gave: done, failed, or no memory.
+// The result of a call: done, failed, or no memory.
 fn letter<T: Drop>(given: Result<T, FolderError>) -> u8 {
     match given {
         Ok(_) => b'd',
@@ -79,7 +79,7 @@ fn new_name(rt: HostRuntime) -> Result<String, Fail> {
     Ok(format!(in rt.alloc(); "pce-test-{}", since.as_nanos())?)
 }
 
-// What the machine's store gives: all, less, too long, or that it failed.
+// The result of a read of the machine's store: all, less, too long, or that it failed.
 fn read<S: Store>(alloc: Global, store: &mut S, name: &str, limit: usize) -> u8 {
     match store.read(alloc, name, limit) {
         Ok(bytes) if bytes.as_slice() == b"abc".as_slice() => b'a',

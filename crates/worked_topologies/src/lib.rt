@@ -1,5 +1,5 @@
-//! Tables of tests: texts of topologies and changes, read, made and written again; what a domain says of asks, anew and by
-//! a cache; and the outside in memory and in the machine. They stand above the crates that they test, so that none of
+//! Tables of tests: texts of topologies and changes, read, made and written again; the answers of a domain to asks, by a search
+//! and by a cache; and the outside in memory and in the machine. They stand above the crates that they test, so that none of
 //! these is proved once more for its tests.
 #![tactic(auto)]
 

@@ -68,7 +68,7 @@ fn meet<L: Listener>(rt: HostRuntime, listener: &mut L) -> Result<(L::Link, TcpS
     }
 }
 
-// What a read gave, as a letter, or how many bytes came.
+// The result of a read, as a letter, or how many bytes came.
 fn letter_of(got: Got) -> u8 {
     match got {
         Got::Bytes(2) => b'2',
@@ -142,7 +142,7 @@ impl Write for Broken {
 
 impl OpenStream for Broken {}
 
-// What a read and a write give over a stream that is broken in that way.
+// The results of a read and a write over a stream that is broken in that way.
 fn answers(rt: HostRuntime, kind: Option<ErrorKind>) -> (Got, Put) {
     let mut link = SocketLink::new(rt, Broken { kind });
     (get(&mut link, &mut [0; 2]), put(&mut link, b"ab"))

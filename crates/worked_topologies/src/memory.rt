@@ -22,7 +22,7 @@ fn link(alloc: Global) -> Result<MemoryLink, Fail> {
     Ok(MemoryLink::new(stream, MemorySink::new(alloc, second(alloc)?)))
 }
 
-// What a write gave: all of it, a part, or nothing.
+// The result of a write: all of it, a part, or nothing.
 fn put<W: Wire>(link: &mut W) -> u8 {
     match link.write(b"ab") {
         Put::Bytes(2) => b'a',
@@ -46,7 +46,7 @@ fn store(alloc: Global) -> Result<MemoryStore, Fail> {
     Ok(MemoryStore::new(alloc, files, second(alloc)?))
 }
 
-// What a read gave: the file, something else, or why nothing.
+// The result of a read: the file, something else, or why nothing.
 fn read(alloc: Global, store: &mut MemoryStore, name: &str, limit: usize) -> u8 {
     match store.read(alloc, name, limit) {
         Ok(bytes) if bytes.as_slice() == b"abc".as_slice() => b'a',

@@ -40,7 +40,7 @@ fn put<W: Wire>(link: &mut W, piece: &[u8]) -> Put {
     link.write(piece)
 }
 
-// What a read of two bytes gave, as a letter, or the first of the bytes that came.
+// The result of a read of two bytes, as a letter, or the first of the bytes that came.
 fn get<W: Wire>(link: &mut W) -> u8 {
     let mut came = [0; 2];
     match link.read(&mut came) {
@@ -51,7 +51,7 @@ fn get<W: Wire>(link: &mut W) -> u8 {
     }
 }
 
-// What one more `accept` gave, as a letter: that of its connection's first read where there is one.
+// The result of one more `accept`, as a letter: that of its connection's first read where there is one.
 fn met<L: Listener>(listener: &mut L) -> u8 {
     match accept(listener) {
         Accepted::Link(mut link) => get(&mut link),
@@ -139,7 +139,7 @@ fn a_dialled_port_that_opens_later_is_reached(rt: HostRuntime) -> Result<(), Fai
     Ok(())
 }
 
-// The machine, but that each connection that comes in at a port is told as one from an address of the test's: the first as one from
+// The machine, except that each connection that comes in at a port is told as one from an address of the test's: the first as one from
 // 127.0.0.1, the second from 127.0.0.2, the third from 127.0.0.3, and so on in turn; and each reading of the clock is 100 seconds
 // behind the one before it.
 #[derive(Drop)]

@@ -89,7 +89,7 @@ link 10.0.0.1 2001:0db8:0000:0000:0000:0000:0000:0001 10.1.0.3 10.1.0.2 1 7 1000
 
 const COUNT: u32 = 8;
 
-// What stands before the next tilde, and what behind it.
+// The text before the next tilde, and the text behind it.
 fn cut(text: &[u8]) -> Result<(&[u8], &[u8]), Fail> {
     match text.iter().position(|c| *c == b'~') {
         Some(place) => Ok((&text[..place], &text[place + 1..])),

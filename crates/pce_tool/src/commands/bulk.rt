@@ -1,4 +1,4 @@
-//! `bulk`: many requests over a large network, both drawn from a number.
+//! `bulk`: many requests over a large network, both drawn pseudorandomly.
 ghost use Rattle.std.specs.Prelude.{◌≡◌, ◌≤◌, IfOk};
 ghost use Rattle.plant_client.specs.declared.tally.Tally.{Tally};
 ghost use Rattle.plant_client.specs.Requests.{requests_most};
@@ -13,7 +13,7 @@ use dom_edge::{Sink, Source, Store};
 use plant_client::{Demand, play, tell_tally};
 use std::alloc::Global;
 
-// What the answers come to, as a text.
+// The tally of the answers, as a text.
 fn counted(alloc: Global, count: u16) -> Result<Vec<u8>, NoMemory>
     requires few { count ≤ requests_most }
     ensures { IfOk result (λ text. (tally : Tally) × IsCounted count tally × (text.items ≡ tally_text count tally)) }
@@ -22,7 +22,7 @@ fn counted(alloc: Global, count: u16) -> Result<Vec<u8>, NoMemory>
     tell_tally(alloc, count, tally)
 }
 
-/// Draws a network and so many requests, puts them, and writes what the answers come to. No file and no input is read.
+/// Draws a network and so many requests, puts them, and writes the tally of the answers. No file and no input is read.
 pub(crate) fn run<S: Store, I: Source, K: Sink>(
     alloc: Global,
     count: u16,

@@ -61,7 +61,7 @@ fn play<S: Store, K: Sink>(
     }
 }
 
-/// Plays the script in the input on a new network of the settings in a file, and writes what is told of each line.
+/// Plays the script in the input on a new network of the settings in a file, and writes the transcript of each line.
 pub(crate) fn run<S: Store, I: Source, K: Sink>(
     alloc: Global,
     name: &str,

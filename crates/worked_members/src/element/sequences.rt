@@ -1,4 +1,4 @@
-//! What an element of domain 2 is told and says, row by row, everything worked out by hand. The rows:
+//! Messages to an element of domain 2 and its messages, row by row, everything worked out by hand. The rows:
 //!
 //!     new                       an element, whose sessions with domains 1 and 3 are up
 //!     up PEER, down PEER        a session comes up, or goes down
@@ -7,8 +7,8 @@
 //!     load TOPOLOGY             a topology is loaded
 //!     full TOPOLOGY             it is refused, since as many as may be are current or asked of
 //!     pins TOPOLOGY             domain 1 asks under the ids 2 to 15, and after each this topology is loaded
-//!     take PEER MESSAGE [PEER MESSAGE ..]   a peer's message, and what is said then to whom
-//!     solve NUMBER PEER MESSAGE   a job is solved, and what is said then to whom
+//!     take PEER MESSAGE [PEER MESSAGE ..]   a peer's message, and the messages sent then, with their receivers
+//!     solve NUMBER PEER MESSAGE   a job is solved, and the message sent then, with its receiver
 //!     back NUMBER               a job is solved, and handed back in place of the answer; it can still be solved
 //!     idle                      no request can be solved
 //!

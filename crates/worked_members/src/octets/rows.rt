@@ -1,4 +1,4 @@
-//! Octets, and what comes of them, worked out by hand.
+//! Octets, and what they are read as, worked out by hand.
 
 /// A row each line: what is read, what comes of it, and the octets, in hexadecimal digits with blanks between parts.
 ///

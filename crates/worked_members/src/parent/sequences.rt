@@ -1,9 +1,9 @@
-//! What the parent is told and says, row by row, everything worked out by hand. The rows:
+//! Messages to the parent and its messages, row by row, everything worked out by hand. The rows:
 //!
 //!     new CHILDREN [link AT FROM AT TO FAR TE ..]   a parent of the children 1 to their count, with these links
 //!     up CHILD, down CHILD      a session comes up, or goes down
 //!     lost [CHILD FLAGS ID]     the next request that is lost; without words, none
-//!     take CHILD MESSAGE [CHILD MESSAGE ..]   a child's message, and what is said then to whom
+//!     take CHILD MESSAGE [CHILD MESSAGE ..]   a child's message, and the messages sent then, with their receivers
 //!     idle                      no request can be solved
 //!     job [AT ENTRY TARGET COST HOP ..]   a request can be solved, over these rows
 //!     solve CHILD MESSAGE       it is solved and answered by this; before, an answer is planned and given up

@@ -1,4 +1,4 @@
-//! What is said of an ask as lines, each behind a line end.
+//! The answer to an ask as lines, each behind a line end.
 use border_costs::{Job, Solved, border_table};
 use dom_base::{Addr, BorderRow, Label, NoMemory, write_addr, write_number};
 use std::alloc::Global;

@@ -6,7 +6,7 @@ use std::alloc::Global;
 use std::test::Fail;
 use te_text::{next_addr, next_as};
 
-/// What stands before the sign that ends a topology, and what behind it.
+/// The text before the sign that ends a topology, and the text behind it.
 pub(crate) fn cut(table: &[u8]) -> Result<(&[u8], &[u8]), Fail> {
     let place = table.iter().position(|c| *c == b'%').ok_or("no sign")?;
     Ok((&table[..place], &table[place + 1..]))

@@ -5,7 +5,7 @@ use lib.ListN.{get_or}
 use Rattle.std.specs.declared.option.Option.{Option}
 use Rattle.dom_edge.specs.Stores.{Files}
 use Rattle.ted_watch.specs.Watch.{published}
-use Rattle.server_loops.specs.Operating.{context, progress}
+use Rattle.server_loops.specs.Operating.{context, progress, side}
 use Rattle.server_loops.specs.OperatorSteps.{CutsOff, Feeds, Lasts, TakesOn, begun}
 use Rattle.server_loops.proofs.Pieces.{fed_more, fed_on, none_fed}
 use Rattle.server_loops.proofs.taking.take_piece.Goals as goal
@@ -16,8 +16,7 @@ loop-byte-init g c =
     let f = begun c.args.begun.now.before c.args.begun.now.bytes.items c.args.begun.now.is_long in
     let a = progress (g.D.Chart.charted c.args.desk.now) (published c.args.publisher.now) (g.T.Store.faults c.args.store.now) (g.T.Store.failed_at c.args.store.now) in
     record {
-      takes = λ line is. none_fed x line f a (g.K.Sink.written c.args.out.now) is;
-      wrote = omega arith;
+      takes = λ line is. none_fed x line f a (side (g.K.Sink.written c.args.out.now) (g.K.Sink.faults c.args.out.now)) is;
       fresh = c.requires.fresh;
       elements = c.requires.elements;
       list = refl;
@@ -35,9 +34,9 @@ returns-in_err-take_byte-clause-feeds g c = λ line is.
     let a = progress (g.D.Chart.charted c.args.desk.now) (published c.args.publisher.now) (g.T.Store.faults c.args.store.now) (g.T.Store.failed_at c.args.store.now) in
     let b = progress (g.D.Chart.charted c.loop-byte.desk) (published c.loop-byte.publisher) (g.T.Store.faults c.loop-byte.store) (g.T.Store.failed_at c.loop-byte.store) in
     let d = progress (g.D.Chart.charted c.take_byte.new.desk) (published c.take_byte.new.publisher) (g.T.Store.faults c.take_byte.new.store) (g.T.Store.failed_at c.take_byte.new.store) in
-    let o = g.K.Sink.written c.args.out.now in
-    let v = g.K.Sink.written c.loop-byte.out in
-    let w = g.K.Sink.written c.take_byte.new.out in
+    let o = side (g.K.Sink.written c.args.out.now) (g.K.Sink.faults c.args.out.now) in
+    let v = side (g.K.Sink.written c.loop-byte.out) (g.K.Sink.faults c.loop-byte.out) in
+    let w = side (g.K.Sink.written c.take_byte.new.out) (g.K.Sink.faults c.take_byte.new.out) in
     let xs = c.args.piece.now in
     let i = c.loop-byte.byte-index in
     let byte : ℕ = get_or xs i 0 in
@@ -48,7 +47,7 @@ returns-in_err-take_byte-clause-feeds g c = λ line is.
     let more : CutsOff x end ⊥ (take i xs ++ byte ∷ []) line f.before a d o w = fed_on x a b d o v w (take i xs) (byte ∷ []) line f m h (Err end) before one in
     let whole : (take i xs ++ byte ∷ []) ++ drop (i + 1) xs ≡ xs = ap (λ (l : List ℕ). l ++ drop (i + 1) xs) (sym (take_more xs i 0 lt)) ∙ take-append-drop (i + 1) xs in
     rw (p.1, p.2) (subst (λ (l : List ℕ). CutsOff x end ⊥ l line f.before a d o w) whole
-    (fed_more x (take i xs ++ byte ∷ []) (drop (i + 1) xs) line f.before end a d o w (g.K.Sink.faults c.loop-byte.out) (g.K.Sink.faults c.take_byte.new.out) (g.D.Chart.charted c.take_byte.new.desk).spent (rw c.in_err-take_byte.was at c.take_byte.ensures.lasts) more))
+    (fed_more x (take i xs ++ byte ∷ []) (drop (i + 1) xs) line f.before end a d o w (g.D.Chart.charted c.take_byte.new.desk).spent (rw c.in_err-take_byte.was at c.take_byte.ensures.lasts) more))
 
 pub loop-byte-preserved : goal.loop-byte-preserved
 loop-byte-preserved g c =
@@ -59,22 +58,21 @@ loop-byte-preserved g c =
     let a = progress (g.D.Chart.charted c.args.desk.now) (published c.args.publisher.now) (g.T.Store.faults c.args.store.now) (g.T.Store.failed_at c.args.store.now) in
     let b = progress (g.D.Chart.charted c.loop-byte.desk) (published c.loop-byte.publisher) (g.T.Store.faults c.loop-byte.store) (g.T.Store.failed_at c.loop-byte.store) in
     let d = progress (g.D.Chart.charted c.take_byte.new.desk) (published c.take_byte.new.publisher) (g.T.Store.faults c.take_byte.new.store) (g.T.Store.failed_at c.take_byte.new.store) in
-    let o = g.K.Sink.written c.args.out.now in
-    let v = g.K.Sink.written c.loop-byte.out in
-    let w = g.K.Sink.written c.take_byte.new.out in
+    let o = side (g.K.Sink.written c.args.out.now) (g.K.Sink.faults c.args.out.now) in
+    let v = side (g.K.Sink.written c.loop-byte.out) (g.K.Sink.faults c.loop-byte.out) in
+    let w = side (g.K.Sink.written c.take_byte.new.out) (g.K.Sink.faults c.take_byte.new.out) in
     let xs = c.args.piece.now in
     let i = c.loop-byte.byte-index in
     let byte : ℕ = get_or xs i 0 in
     let lt : i < length xs = omega (arith, c.loop-byte-test.true) in
-    let lasts : Lasts (Ok tt) (g.K.Sink.faults c.loop-byte.out) (g.K.Sink.faults c.take_byte.new.out) (g.D.Chart.charted c.take_byte.new.desk).spent = rw c.in_ok-take_byte.was at c.take_byte.ensures.lasts in
+    let lasts : Lasts (Ok tt) (g.D.Chart.charted c.take_byte.new.desk).spent = rw c.in_ok-take_byte.was at c.take_byte.ensures.lasts in
     record {
       takes = λ line is.
           let before : TakesOn x (take i xs) line f m a b o v = c.loop-byte.invariant.takes line is in
           let one : Feeds x (byte ∷ []) (Ok tt) before.left m h b d v w =
           subst (λ (fs : Option Files). Feeds (context c.args.network.now fs) (byte ∷ []) (Ok tt) before.left m h b d v w) c.loop-byte.invariant.files (rw c.in_ok-take_byte.was at c.take_byte.ensures.feeds before.left before.is_begun) in
           subst (λ (l : List ℕ). TakesOn x l line f h a d o w) (sym (take_more xs i 0 lt)) (fed_on x a b d o v w (take i xs) (byte ∷ []) line f m h (Ok tt) before one);
-      wrote = omega (arith, c.loop-byte.invariant.wrote, lasts.0);
-      fresh = lasts.1;
+      fresh = lasts;
       elements = c.take_byte.ensures.elements;
       list = c.take_byte.ensures.list ∙ c.loop-byte.invariant.list;
       files = c.take_byte.ensures.files ∙ c.loop-byte.invariant.files;
@@ -89,4 +87,4 @@ returns-clause-feeds g c = λ line is.
     let h = begun c.loop-byte.begun.before c.loop-byte.begun.bytes.items c.loop-byte.begun.is_long in
     let a = progress (g.D.Chart.charted c.args.desk.now) (published c.args.publisher.now) (g.T.Store.faults c.args.store.now) (g.T.Store.failed_at c.args.store.now) in
     let b = progress (g.D.Chart.charted c.loop-byte.desk) (published c.loop-byte.publisher) (g.T.Store.faults c.loop-byte.store) (g.T.Store.failed_at c.loop-byte.store) in
-    subst (λ (l : List ℕ). TakesOn x l line f h a b (g.K.Sink.written c.args.out.now) (g.K.Sink.written c.loop-byte.out)) (take_all i xs (omega (arith, c.loop-byte-test.false))) (c.loop-byte.invariant.takes line is)
+    subst (λ (l : List ℕ). TakesOn x l line f h a b (side (g.K.Sink.written c.args.out.now) (g.K.Sink.faults c.args.out.now)) (side (g.K.Sink.written c.loop-byte.out) (g.K.Sink.faults c.loop-byte.out))) (take_all i xs (omega (arith, c.loop-byte-test.false))) (c.loop-byte.invariant.takes line is)

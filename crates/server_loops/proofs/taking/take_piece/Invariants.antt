@@ -1,6 +1,6 @@
-use Rattle.std.proofs.Common.{◌≡◌, ◌≤◌, ℕ, List, None, take}
+use Rattle.std.proofs.Common.{◌≡◌, ℕ, List, None, take}
 use Rattle.ted_watch.specs.Watch.{list_of, published}
-use Rattle.server_loops.specs.Operating.{AreOfElements, context, progress}
+use Rattle.server_loops.specs.Operating.{AreOfElements, context, progress, side}
 use Rattle.server_loops.specs.OperatorSteps.{IsBegun, TakesOn, begun}
 use Rattle.server_loops.proofs.taking.take_piece.Given as goal
 
@@ -11,8 +11,7 @@ invariant-loop-byte g l = record {
       → TakesOn (context l.network (g.T.Store.files l.initial.store)) (take l.byte-index l.piece) line (begun l.initial.begun.before l.initial.begun.bytes.items l.initial.begun.is_long) (begun l.begun.before l.begun.bytes.items l.begun.is_long)
       (progress (g.D.Chart.charted l.initial.desk) (published l.initial.publisher) (g.T.Store.faults l.initial.store) (g.T.Store.failed_at l.initial.store))
       (progress (g.D.Chart.charted l.desk) (published l.publisher) (g.T.Store.faults l.store) (g.T.Store.failed_at l.store))
-      (g.K.Sink.written l.initial.out) (g.K.Sink.written l.out);
-  wrote : g.K.Sink.faults l.initial.out ≤ g.K.Sink.faults l.out;
+      (side (g.K.Sink.written l.initial.out) (g.K.Sink.faults l.initial.out)) (side (g.K.Sink.written l.out) (g.K.Sink.faults l.out));
   fresh : (g.D.Chart.charted l.desk).spent ≡ None;
   elements : AreOfElements l.network (published l.publisher);
   list : list_of l.publisher ≡ list_of l.initial.publisher;

@@ -1,26 +1,17 @@
-use Rattle.std.proofs.Common.{ℕ, Option, subst}
-use Rattle.dom_base.specs.declared.names.As.{As}
+use Rattle.std.proofs.Common.{Option, subst}
+use Rattle.plant_network.specs.pce_element.pce_common.declared.rounds.AskedJob.{AskedJob}
 use Rattle.turn_desk.specs.Desks.{stand_of}
-use Rattle.turn_desk.specs.Works.{Finds}
-use Rattle.turn_desk.proofs.Benching.{one_asked, one_found}
+use Rattle.turn_desk.specs.Works.{Finds, job_at}
+use Rattle.turn_desk.proofs.Benching.{asked_on, found_on}
 use Rattle.turn_desk.proofs.desk.TurnDesk.find.Goals as goal
 
-pub returns-in_default : goal.returns-in_default
-returns-in_default g c =
+pub returns-in-Some-find_at : goal.returns-in-Some-find_at
+returns-in-Some-find_at g c =
     let old = stand_of c.args.self.now in
-    let mid = stand_of c.loop-place.self in
-    let new = stand_of c.ready.new.self in
-    let found : Finds c.ready.result old new = one_found old mid new c.loop-place.place c.ready.result c.loop-place.invariant c.ready.ensures.goes c.ready.ensures.turn in
-    subst (λ (answer : Option (As × ℕ)). Finds answer old new) c.in_default.is found
+    let mid = stand_of c.loop-member.self in
+    let new = stand_of c.find_at.new.self in
+    subst (λ (answer : Option AskedJob). Finds (job_at c.in-Some.member.at answer) old new) c.in-Some-find_at.is
+    (found_on old mid new (job_at c.in-Some.member.at c.find_at.result) c.loop-member.invariant c.find_at.ensures)
 
-pub returns-then-claim : goal.returns-then-claim
-returns-then-claim g c =
-    let old = stand_of c.args.self.now in
-    let mid = stand_of c.loop-place.self in
-    let new = stand_of c.ready.new.self in
-    let found : Finds c.ready.result old new = one_found old mid new c.loop-place.place c.ready.result c.loop-place.invariant c.ready.ensures.goes c.ready.ensures.turn in
-    subst (λ (answer : Option (As × ℕ)). Finds answer old new) c.in-Some.is found
-
-pub loop-place-preserved : goal.loop-place-preserved
-loop-place-preserved g c =
-    one_asked (stand_of c.args.self.now) (stand_of c.loop-place.self) (stand_of c.ready.new.self) c.loop-place.place c.ready.result c.loop-place.invariant c.ready.ensures.goes c.ready.ensures.turn
+pub loop-member-preserved : goal.loop-member-preserved
+loop-member-preserved g c = asked_on (stand_of c.args.self.now) (stand_of c.loop-member.self) (stand_of c.find_at.new.self) c.loop-member.invariant c.find_at.ensures.asked
