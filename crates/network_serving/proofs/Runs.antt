@@ -42,15 +42,12 @@ module _ (files : Option Files) (n : NetworkParts) (x : Server) (ready : IsReady
   abbrev left : Plant
   left = (replay left_by (whole held) s.seen).state
 
-  pub is_run : IsRun n s
+  pub is_run : IsRun n loaded.entries s
   is_run =
       let run : Run wire (whole held).network loaded.entries (whole held).state = subst (λ (m : NetworkParts). Run wire m loaded.entries (whole held).state) (sym loaded.network) loaded.run in
       let on = histories_are_runs (whole held) loaded.entries s.seen at.given run legal in
       let goes : Run wire n (on.0 ++ loaded.entries) left = subst (λ (m : NetworkParts). Run wire m (on.0 ++ loaded.entries) left) loaded.network on.1 in
       record {
-        loads = loaded.loads;
-        older = loaded.entries;
-        are_loads = loaded.are_loads;
         newer = on.0;
         are_turns = on.2;
         left = left;

@@ -47,7 +47,7 @@ pub record IsPortEnd (w : World) (name : List ℕ) (port : ℕ) : Type 0 where
   pub at_port : w.failed_port ≡ port
 
 -- Exactly the duties of the network were started, in their order, all at one lock, which had just been opened round the network with its
--- topologies, and whose histories are runs of it; and the clock was read in each turn, and the desk that is handed back told each reading that rose.
+-- topologies, and whose histories are runs of it behind those loads; and the clock was read in each turn, and the desk that is handed back told each reading that rose.
 pub record IsServed (w : World) (name : List ℕ) (turns : ℕ) : Type 0 where
   pub network : NetworkParts
   pub has : HasNetwork w.files name network
@@ -55,7 +55,7 @@ pub record IsServed (w : World) (name : List ℕ) (turns : ℕ) : Type 0 where
   pub duties : w.started.1 ≡ w.started.0 ++ duties_of network
   pub server : Server
   pub ready : IsReady w.files network server
-  pub runs : (s : Stand) → IsAtLock server.desk s → IsRun network s
+  pub runs : (s : Stand) → IsAtLock server.desk s → IsRun network ready.loaded.entries s
   pub behind : w.bases.1 ≡ w.bases.0 ++ bases_of network server
   pub read : RoseBy turns w.readings
   pub told : Stand

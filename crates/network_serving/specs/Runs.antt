@@ -17,7 +17,6 @@ use Rattle.turn_desk.specs.Desks.{Stand, desked_of}
 use Rattle.desk_laws.specs.Closed.{IsSaidBlindly}
 use Rattle.desk_laws.specs.Connections.{IsAlone}
 use Rattle.desk_laws.specs.Written.{IsPutFor, Wrote}
-use Rattle.network_serving.specs.Loaded.{Load, load_events}
 
 -- A desk at the same lock as another. What it has seen of the history is legal, and what is given with its events is what their types say.
 pub record IsAtLock (first s : Stand) : Type 0 where
@@ -26,13 +25,10 @@ pub record IsAtLock (first s : Stand) : Type 0 where
   pub legal : LegalFrom whole Admits Allowed left_by s.start s.seen
   pub given : AreGiven s.seen
 
--- What the desk has seen is a run of the network, behind that of the loads alone. What a session at this desk writes over its link is a
+-- What the desk has seen is a run of the network, behind these older entries. What a session at this desk writes over its link is a
 -- first part of what that run put for the peer, where nobody else opens, shuts or drains its connection. And what it put for a closed peer
 -- is what the network without topologies says for that peer.
-pub record IsRun (n : NetworkParts) (s : Stand) : Type 0 where
-  pub loads : List Load
-  pub older : List Entry
-  pub are_loads : map done_by older ≡ load_events loads
+pub record IsRun (n : NetworkParts) (older : List Entry) (s : Stand) : Type 0 where
   pub newer : List Entry
   pub are_turns : map done_by newer ≡ events_of s.seen
   pub left : Plant
