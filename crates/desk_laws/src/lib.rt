@@ -4,4 +4,4 @@
 
 mod sockets;
 
-pub use sockets::written_was_put;
+pub use sockets::{put_is_said_blindly, written_was_put};
