@@ -14,6 +14,7 @@ use Rattle.plant_network.proofs.HistoryLemmas.{histories_are_runs}
 use Rattle.plant_text.specs.declared.settings.NetworkParts.{NetworkParts}
 use Rattle.turn_desk.specs.Desks.{Stand}
 use Rattle.desk_laws.specs.Connections.{at_peer, is_at}
+use Rattle.desk_laws.proofs.Closed.{put_is_said_blindly}
 use Rattle.desk_laws.proofs.Streams.{filter_on}
 use Rattle.desk_laws.proofs.Written.{written_was_put}
 use Rattle.network_serving.specs.Bases.{IsReady, Server}
@@ -56,4 +57,5 @@ module _ (files : Option Files) (n : NetworkParts) (x : Server) (ready : IsReady
         run = goes;
         written = λ i alone front made back calls holder turns end before after over bytes wrote.
             written_was_put n on.0 loaded.entries left goes i (ap (at_peer i) loaded.are_loads ∙ loads_quiet i loaded.loads) s on.2 alone front made back calls holder turns end before after over bytes wrote;
+        closed = λ i shut bytes put. put_is_said_blindly n (on.0 ++ loaded.entries) left goes i shut bytes put;
       }

@@ -1,5 +1,5 @@
 -- The tasks of a network: which, and in which order they are started.
-use Rattle.std.specs.Prelude.{ℕ, zero, suc, List, [], ◌∷◌, ◌++◌, Option, Some, None}
+use Rattle.std.specs.Prelude.{ℕ, zero, suc, ◌+◌, List, [], ◌∷◌, ◌++◌, length, Option, Some, None}
 use Rattle.std.specs.List.{flat_map}
 use Rattle.dom_base.specs.declared.names.As.{As}
 use Rattle.plant_text.specs.Names.{parent_as}
@@ -42,3 +42,11 @@ first_duties n = port_duties 0 n.peers ++ Carry (ways_of n) ∷ work_duties 0 n.
 -- all of them
 abbrev pub duties_of : NetworkParts → List Duty
 duties_of n = first_duties n ++ Operate ∷ watch_duties n.watch
+
+-- how many of the first tasks: each has a desk
+abbrev pub first_count : NetworkParts → ℕ
+first_count n = length n.peers + n.workers + 1
+
+-- the desks of all tasks, and that from which they are split
+abbrev pub desks_of : NetworkParts → ℕ
+desks_of n = first_count n + 2

@@ -10,13 +10,14 @@ use Rattle.network_serving.specs.Duties.{duties_of}
 use Rattle.network_serving.specs.Files.{IsLoadEnd}
 use Rattle.network_serving.specs.Ports.{AreApart, ports_of}
 use Rattle.network_serving.specs.Runs.{IsAtLock, IsRun}
-use Rattle.turn_desk.specs.Desks.{Stand}
+use Rattle.server_loops.specs.Serving.{TellsTime}
+use Rattle.turn_desk.specs.Desks.{Stand, desked_of}
 use Rattle.network_serving.specs.declared.served.Served.{Served}
 use Rattle.network_serving.specs.declared.served.Served.TheVariants as served
 
 -- What is told of the outside, before and after: the files, the store's faults and the name at which it last failed; the calls of the
 -- ports, their faults and the port at which they last failed; the spawner's duties, what stands behind their tasks, and its faults; the
--- clock's readings.
+-- clock's readings and the last of them; and the desk by which the time was told, behind it.
 pub record World : Type 0 where
   pub files : Option Files
   pub store_faults : ℕ × ℕ
@@ -28,6 +29,8 @@ pub record World : Type 0 where
   pub bases : List Base × List Base
   pub spawner_faults : ℕ × ℕ
   pub readings : ℕ × ℕ
+  pub last : ℕ × ℕ
+  pub told : Option Stand
 
 -- a count rose by just so many, up to its type's last value
 abbrev pub RoseBy : ℕ → ℕ × ℕ → Type 0
@@ -44,7 +47,7 @@ pub record IsPortEnd (w : World) (name : List ℕ) (port : ℕ) : Type 0 where
   pub at_port : w.failed_port ≡ port
 
 -- Exactly the duties of the network were started, in their order, all at one lock, which had just been opened round the network with its
--- topologies, and whose histories are runs of it; and the clock was read in each turn.
+-- topologies, and whose histories are runs of it; and the clock was read in each turn, and the desk that is handed back told each reading that rose.
 pub record IsServed (w : World) (name : List ℕ) (turns : ℕ) : Type 0 where
   pub network : NetworkParts
   pub has : HasNetwork w.files name network
@@ -55,6 +58,9 @@ pub record IsServed (w : World) (name : List ℕ) (turns : ℕ) : Type 0 where
   pub runs : (s : Stand) → IsAtLock server.desk s → IsRun network s
   pub behind : w.bases.1 ≡ w.bases.0 ++ bases_of network server
   pub read : RoseBy turns w.readings
+  pub told : Stand
+  pub by : w.told ≡ Some told
+  pub tells : TellsTime turns (desked_of server.desk) (desked_of told) w.last.0 w.last.1
 
 abbrev pub Ends : World → List ℕ → ℕ → Served → Type 0
 Ends w name turns served.Turns = IsServed w name turns

@@ -1,5 +1,5 @@
 -- What a task does in a run: just what the call does that its kind makes, over its own fields.
-use Rattle.std.specs.Prelude.{◌≡◌, ◌↔◌, ℕ, [], List, Option, Some}
+use Rattle.std.specs.Prelude.{◌≡◌, ◌↔◌, ◌-◌, ◌^◌, ℕ, [], List, Option, Some}
 use Rattle.dom_base.specs.declared.addr.Addr.{Addr}
 use Rattle.dom_base.specs.declared.names.As.{As}
 use Rattle.dom_edge.specs.Heeding.{Sides}
@@ -81,3 +81,7 @@ module _ {K F I O R : Type 0} (x : Outside K F I O) (turns : ℕ) where
   RunsTask end.Watching (task.Watch rt watcher listener) (task.Watch rt' watcher' listener') =
       IsSameListener x listener' listener × WatchesPort turns (known watcher) (known watcher') (heard_of x listener) (heard_of x listener')
   RunsTask e old new = ⊥
+
+-- the first of these tasks became the second in a run of all turns that a number of 64 bits counts
+abbrev pub WasRun : {K F I O R : Type 0} → Outside K F I O → Task K F I O R → Task K F I O R → Type 0
+WasRun x old new = (end : TaskEnd) × RunsTask x (2 ^ 64 - 1) end old new

@@ -1,17 +1,20 @@
 -- What the histories of a server's lock are: runs of its network, of which its sessions write what was put for their peers.
-use Rattle.std.specs.Prelude.{◌≡◌, ◌⊎◌, ℕ, List, [], ◌++◌, map}
+use Rattle.std.specs.Prelude.{◌≡◌, ◌⊎◌, ℕ, true, List, [], ◌++◌, map}
 use Rattle.dom_edge.specs.Heeding.{Sides}
 use Rattle.plant_lock.specs.Views.{LegalFrom}
 use Rattle.plant_network.specs.Histories.{AreGiven, done_by, events_of}
 use Rattle.plant_network.specs.Topologies.{whole}
 use Rattle.plant_network.specs.Turns.{Admits, Allowed, left_by}
+use Rattle.plant_network.specs.plant_model.Blind.{is_closed}
 use Rattle.plant_network.specs.plant_model.Plant.{Entry, Plant, Run}
 use Rattle.plant_network.specs.plant_model.RealWire.{wire}
+use Rattle.plant_network.specs.plant_model.Types.{Outside}
 use Rattle.plant_text.specs.declared.settings.NetworkParts.{NetworkParts}
 use Rattle.server_loops.specs.Desks.{Call}
 use Rattle.server_loops.specs.Sessions.{OverLink}
 use Rattle.server_loops.specs.declared.sessions.Ended.{Ended}
 use Rattle.turn_desk.specs.Desks.{Stand, desked_of}
+use Rattle.desk_laws.specs.Closed.{IsSaidBlindly}
 use Rattle.desk_laws.specs.Connections.{IsAlone}
 use Rattle.desk_laws.specs.Written.{IsPutFor, Wrote}
 use Rattle.network_serving.specs.Loaded.{Load, load_events}
@@ -24,7 +27,8 @@ pub record IsAtLock (first s : Stand) : Type 0 where
   pub given : AreGiven s.seen
 
 -- What the desk has seen is a run of the network, behind that of the loads alone. What a session at this desk writes over its link is a
--- first part of what that run put for the peer, where nobody else opens, shuts or drains its connection.
+-- first part of what that run put for the peer, where nobody else opens, shuts or drains its connection. And what it put for a closed peer
+-- is what the network without topologies says for that peer.
 pub record IsRun (n : NetworkParts) (s : Stand) : Type 0 where
   pub loads : List Load
   pub older : List Entry
@@ -35,3 +39,4 @@ pub record IsRun (n : NetworkParts) (s : Stand) : Type 0 where
   pub run : Run wire n (newer ++ older) left
   pub written : (i : ℕ) → IsAlone i s → (front made back : List Call) → (desked_of s).calls ≡ front ++ (made ++ back) → (holder turns : ℕ) (end : Ended) (before after : Sides) → OverLink i holder turns end made before after →
       (bytes : List ℕ) → Wrote before.writing after.writing bytes → (bytes ≡ []) ⊎ IsPutFor n (newer ++ older) i bytes
+  pub closed : (i : ℕ) → is_closed n (Outside i) ≡ true → (bytes : List ℕ) → IsPutFor n (newer ++ older) i bytes → IsSaidBlindly n (newer ++ older) i bytes

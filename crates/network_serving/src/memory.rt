@@ -1,6 +1,6 @@
 //! A spawner in memory.
 ghost use Rattle.std.specs.Prelude.{◌≡◌, []};
-ghost use Rattle.dom_edge.specs.Memory.{IsPlanned, no_calls};
+ghost use Rattle.dom_edge.specs.Memory.{IsCalled, IsPlanned, no_calls};
 ghost use Rattle.network_serving.specs.Bases.{base_in};
 ghost use Rattle.network_serving.specs.SpawnerStates.{Starts, bases_in};
 ghost use Rattle.network_serving.specs.Tasks.{duty_of};
@@ -64,6 +64,7 @@ impl MemorySpawner {
         R: Wait + Clock + Drop,
         ensures starts { Starts (duty_of K.opened_at task) (base_in task) result self.old.duties self.new.duties (bases_in self.old.footings) (bases_in self.new.footings) self.old.calls.faults self.new.calls.faults }
         ensures planned { IsPlanned self.old.calls → result ≡ Failed }
+        ensures called { IsCalled self.old.calls self.new.calls (result ≡ Failed) }
     {
         if self.calls.is_planned() {
             self.calls.fail();

@@ -1,14 +1,14 @@
 //! The tasks of the peers, of the carrier and of the workers.
-ghost use Rattle.std.specs.Prelude.{◌≡◌, ◌≤◌, ◌<◌, ◌^◌, ◌++◌, ◌∷◌, [], All, IfErr, IfOk, OnOk, length, map};
+ghost use Rattle.std.specs.Prelude.{◌≡◌, ◌+◌, ◌≤◌, ◌<◌, ◌^◌, ◌++◌, ◌∷◌, [], All, IfErr, IfOk, OnOk, length, map};
 ghost use Rattle.std.specs.List.{flat_map};
 ghost use Rattle.dom_edge.specs.Causes.{HasCause, next_count};
 ghost use Rattle.dom_edge.specs.Opening.{IsOpenedAt, IsOpenedFor};
 ghost use Rattle.network_serving.specs.Tasks.{duty_of};
 ghost use Rattle.network_serving.specs.declared.duties.Duty.TheVariants.{Carry};
-ghost use Rattle.network_serving.specs.Duties.{both_ways, child_ways, first_duties, port_duties, ways_of, work_duties};
+ghost use Rattle.network_serving.specs.Duties.{both_ways, child_ways, first_count, first_duties, port_duties, ways_of, work_duties};
 ghost use Rattle.network_serving.specs.Ends.{RoseBy};
 ghost use Rattle.network_serving.specs.Ports.{dialled, heeded};
-ghost use Rattle.turn_desk.specs.Desks.{split_from, stand_of};
+ghost use Rattle.turn_desk.specs.Desks.{shares_at, split_from, stand_of};
 ghost use Rattle.network_serving.specs.Starting.{Adds, IsClosed, IsFresh, IsPlanEnd, IsPlanned, called, peer_ports};
 
 use crate::served::Served;
@@ -17,6 +17,7 @@ use cost_cache::Cache;
 use dom_base::{As, List, NoMemory};
 use dom_edge::{Listener, Opened, Ports};
 use network_links::children_of;
+use plant_lock::SplitError;
 use plant_text::{Comes, Network, NetworkParts, PeerRow};
 use std::alloc::Global;
 use std::sync::Wait;
@@ -72,12 +73,15 @@ pub(crate) fn desk_beside<R: Wait + Clock + Copy + Drop>(
     rt: R,
     desk: &mut TurnDesk<R>,
 ) -> Result<TurnDesk<R>, NoMemory>
+    requires seat { 1 < shares_at desk.old }
     ensures stand { stand_of desk.new ≡ stand_of desk.old }
     ensures ok { IfOk result (λ beside. stand_of beside ≡ split_from (stand_of desk.old)) }
+    ensures seat { OnOk result (shares_at desk.new + 1 ≡ shares_at desk.old) }
 {
     match desk.split(rt) {
         Ok(desk) => Ok(desk),
-        Err(_) => Err(NoMemory),
+        Err(SplitError::NoMemory) => Err(NoMemory),
+        Err(SplitError::NoSeat) => unreachable!(),
     }
 }
 
@@ -140,7 +144,9 @@ fn add_ports<Q: Ports, F: Drop, I: Drop, O: Drop, R: Wait + Clock + Copy + Drop>
     tasks: &mut Vec<Task<Q::Port, F, I, O, R>>,
 ) -> Result<(), Served>
     requires few { length peers.now < 2 ^ 32 }
+    requires seats { length peers.now < shares_at desk.old }
     requires fresh { IsFresh (stand_of desk.old) }
+    ensures seats { OnOk result (shares_at desk.new + length peers.now ≡ shares_at desk.old) }
     ensures stand { stand_of desk.new ≡ stand_of desk.old }
     ensures ok { OnOk result (Adds Q.Port.opened_at Q.Port.heeds Q.Port.dialled_to (stand_of desk.old) tasks.old.items tasks.new.items (port_duties 0 peers.now)) }
     ensures calls { OnOk result (RoseBy (length peers.now) (Q.calls ports.old, Q.calls ports.new)) }
@@ -171,7 +177,9 @@ fn add_workers<K: Listener + Drop, F: Drop, I: Drop, O: Drop, R: Wait + Clock + 
     workers: u32,
     tasks: &mut Vec<Task<K, F, I, O, R>>,
 ) -> Result<(), NoMemory>
+    requires seats { workers < shares_at desk.old }
     requires fresh { IsFresh (stand_of desk.old) }
+    ensures seats { OnOk result (shares_at desk.new + workers ≡ shares_at desk.old) }
     ensures stand { stand_of desk.new ≡ stand_of desk.old }
     ensures ok { OnOk result (Adds K.opened_at K.heeds K.dialled_to (stand_of desk.old) tasks.old.items tasks.new.items (work_duties 0 workers)) }
 {
@@ -198,7 +206,9 @@ fn add_carrier<K: Listener + Drop, F: Drop, I: Drop, O: Drop, R: Wait + Clock + 
     parts: &NetworkParts,
     tasks: &mut Vec<Task<K, F, I, O, R>>,
 ) -> Result<(), NoMemory>
+    requires seat { 1 < shares_at desk.old }
     requires fresh { IsFresh (stand_of desk.old) }
+    ensures seat { OnOk result (shares_at desk.new + 1 ≡ shares_at desk.old) }
     ensures stand { stand_of desk.new ≡ stand_of desk.old }
     ensures ok { OnOk result (Adds K.opened_at K.heeds K.dialled_to (stand_of desk.old) tasks.old.items tasks.new.items (Carry (ways_of parts.now) ∷ [])) }
 {
@@ -216,7 +226,9 @@ pub(crate) fn plan_tasks<Q: Ports, F: Drop, I: Drop, O: Drop, R: Wait + Clock + 
     ports: &mut Q,
     network: &Network,
 ) -> Result<Vec<Task<Q::Port, F, I, O, R>>, Served>
+    requires seats { first_count network.now < shares_at desk.old }
     requires fresh { IsFresh (stand_of desk.old) }
+    ensures seats { OnOk result (shares_at desk.new + first_count network.now ≡ shares_at desk.old) }
     ensures stand { stand_of desk.new ≡ stand_of desk.old }
     ensures ok { IfOk result (λ tasks. (map (duty_of Q.Port.opened_at) tasks.items ≡ first_duties network.now) × All (IsPlanned Q.Port.heeds Q.Port.dialled_to (stand_of desk.old)) tasks.items) }
     ensures calls { OnOk result (RoseBy (length network.now.peers) (Q.calls ports.old, Q.calls ports.new)) }

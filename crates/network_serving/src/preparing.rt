@@ -1,10 +1,11 @@
 //! All that comes before a port is listened at.
-ghost use Rattle.std.specs.Prelude.{◌≡◌, ◌≤◌, IfErr, IfOk, OnOk, []};
-ghost use Rattle.turn_desk.specs.Desks.{stand_of};
+ghost use Rattle.std.specs.Prelude.{◌≡◌, ◌≤◌, ◌^◌, IfErr, IfOk, OnErr, OnOk, []};
+ghost use Rattle.turn_desk.specs.Desks.{shares_at, stand_of};
 ghost use Rattle.network_files.specs.Settings.{HasNetwork};
 ghost use Rattle.server_loops.specs.Operating.{AreOfElements};
 ghost use Rattle.ted_watch.specs.Watch.{known, list_at, list_of, published};
 ghost use Rattle.network_serving.specs.Bases.{IsReady, server};
+ghost use Rattle.network_serving.specs.Duties.{desks_of};
 ghost use Rattle.network_serving.specs.Loading.{IsBehind, IsOpenEnd};
 ghost use Rattle.network_serving.specs.Files.{IsLoadEnd};
 ghost use Rattle.network_serving.specs.Ports.{AreApart};
@@ -33,14 +34,19 @@ pub(crate) struct Prepared<R: Wait + Clock + Drop> {
 }
 
 // How many desks a network has: those of the peers' ports, of the workers, of the carrier and of the operator, and that from which
-// they are split.
-fn desks_of(network: &Network) -> u32
-    ensures { 1 ≤ result }
+// they are split. A lock has fewer than 2^32.
+fn desks_of(network: &Network) -> Result<u32, NoMemory>
+    ensures ok { IfOk result (λ desks. desks ≡ desks_of network.now) }
+    ensures many { OnErr result (2 ^ 32 ≤ desks_of network.now) }
 {
     let parts = network.parts();
-    (parts.peers.len() as u32)
-        .saturating_add(parts.workers)
-        .saturating_add(3)
+    let Some(tasks) = (parts.peers.len() as u32).checked_add(parts.workers) else {
+        return Err(NoMemory);
+    };
+    let Some(desks) = tasks.checked_add(3) else {
+        return Err(NoMemory);
+    };
+    Ok(desks)
 }
 
 // A lock round a network of these settings, into which the topologies that they name were loaded, and each was shown.
@@ -57,10 +63,11 @@ fn open_loaded<T: Store, R: Wait + Clock + Drop>(
     requires unshown { published publisher.old ≡ [] }
     ensures behind { IfOk result (λ desk. IsBehind (T.files store.old) own.now (stand_of desk) (published publisher.new)) }
     ensures err { IfErr result (IsOpenEnd (T.files store.old) own.now (T.faults store.old, T.faults store.new) (T.failed_at store.new)) }
+    ensures seats { IfOk result (λ desk. shares_at desk ≡ desks_of own.now) }
     ensures elements { OnOk result (AreOfElements own.now (published publisher.new)) }
     ensures list { list_of publisher.new ≡ list_of publisher.old }
 {
-    let desks = desks_of(own);
+    let desks = desks_of(own)?;
     let mut plant = Plant::new(alloc, network)?;
     load_all(alloc, store, &mut plant, own, publisher)?;
     match TurnDesk::open(rt, alloc, plant, desks) {
@@ -93,6 +100,7 @@ pub(crate) fn prepare<T: Store, R: Wait + Clock + Copy + Drop>(
     ensures ok { IfOk result (λ p. HasNetwork (T.files store.old) name.now p.network × AreApart p.network × AreOfElements p.network (published p.publisher)) }
     ensures ready { IfOk result (λ p. IsReady (T.files store.old) p.network (server (stand_of p.desk) (published p.publisher) (known p.watcher) (list_of p.publisher))) }
     ensures list { IfOk result (λ p. list_at p.watcher ≡ list_of p.publisher) }
+    ensures seats { IfOk result (λ p. shares_at p.desk ≡ desks_of p.network) }
     ensures err { IfErr result (IsLoadEnd (T.files store.old) name.now (T.faults store.old, T.faults store.new) (T.failed_at store.new)) }
 {
     let (network, own) = load_settings(alloc, store, name)?;

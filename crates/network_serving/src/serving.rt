@@ -1,11 +1,12 @@
 //! A network is served.
 ghost use Rattle.std.specs.Prelude.{◌≡◌, ◌++◌, IfErr, IfOk, OnOk, option_to_list};
+ghost use Rattle.std.specs.Option.{option_map};
 ghost use Rattle.server_loops.specs.Operating.{AreOfElements};
 ghost use Rattle.ted_watch.specs.Watch.{known, list_at, list_of, published};
-ghost use Rattle.turn_desk.specs.Desks.{stand_of};
+ghost use Rattle.turn_desk.specs.Desks.{shares_at, stand_of};
 ghost use Rattle.network_serving.specs.Bases.{bases_of, server, watch_bases};
 ghost use Rattle.network_serving.specs.Spawners.{bases, faults_of, started};
-ghost use Rattle.network_serving.specs.Duties.{duties_of, watch_duties};
+ghost use Rattle.network_serving.specs.Duties.{desks_of, duties_of, watch_duties};
 ghost use Rattle.network_serving.specs.Ends.{Ends};
 ghost use Rattle.network_serving.specs.Ports.{ports_of};
 ghost use Rattle.network_serving.specs.Starting.{IsFresh, IsStartEnd, called};
@@ -91,6 +92,7 @@ where
     L: Sink,
     requires elements { AreOfElements prepared.network (published prepared.publisher) }
     requires fresh { IsFresh (stand_of prepared.desk) }
+    requires seats { shares_at prepared.desk ≡ desks_of prepared.network }
     requires list { list_at prepared.watcher ≡ list_of prepared.publisher }
     ensures ok { OnOk result (started spawner.new ≡ started spawner.old ++ duties_of prepared.network) }
     ensures behind { OnOk result (bases spawner.new ≡ bases spawner.old ++ bases_of prepared.network (server (stand_of prepared.desk) (published prepared.publisher) (known prepared.watcher) (list_of prepared.publisher))) }
@@ -126,7 +128,7 @@ where
 /// one that does what an operator's lines say; and where the settings have a port of watchers it listens there last, and starts a task
 /// that answers them. Then it tells the time, in so many turns.
 ///
-/// `files`, `input` and `out` are the operator's. What is said on `log` is a line for each task that was started, and `pce: ready`;
+/// `told` gets the desk by which it told the time. `files`, `input` and `out` are the operator's. What is said on `log` is a line for each task that was started, and `pce: ready`;
 /// `at` is what it calls the addresses at which it listens.
 #[tactic(auto, using(crate::proofs::Starts::load_ends, crate::proofs::Starts::start_ends, crate::proofs::Loads::ready_is_fresh))]
 pub fn serve<T, Q, S, C, F, I, O, R, L>(
@@ -143,6 +145,7 @@ pub fn serve<T, Q, S, C, F, I, O, R, L>(
     log: &mut L,
     at: &str,
     turns: u64,
+    told: &mut Option<TurnDesk<R>>,
 ) -> Served
 where
     T: Store,
@@ -156,7 +159,7 @@ where
     O: Sink + Send + Drop + 'static,
     R: Wait + Clock + Copy + Send + Drop + 'static,
     L: Sink,
-    ensures ends { Ends (record { files = T.files store.old; store_faults = (T.faults store.old, T.faults store.new); failed_at = T.failed_at store.new; port_calls = (Q.calls ports.old, Q.calls ports.new); port_faults = (Q.faults ports.old, Q.faults ports.new); failed_port = Q.failed_at ports.new; started = (started spawner.old, started spawner.new); bases = (bases spawner.old, bases spawner.new); spawner_faults = (faults_of spawner.old, faults_of spawner.new); readings = (C.readings clock.old, C.readings clock.new) }) name.now turns result }
+    ensures ends { Ends (record { files = T.files store.old; store_faults = (T.faults store.old, T.faults store.new); failed_at = T.failed_at store.new; port_calls = (Q.calls ports.old, Q.calls ports.new); port_faults = (Q.faults ports.old, Q.faults ports.new); failed_port = Q.failed_at ports.new; started = (started spawner.old, started spawner.new); bases = (bases spawner.old, bases spawner.new); spawner_faults = (faults_of spawner.old, faults_of spawner.new); readings = (C.readings clock.old, C.readings clock.new); last = (C.last clock.old, C.last clock.new); told = option_map stand_of told.new }) name.now turns result }
 {
     let prepared = match prepare(rt, alloc, name, store) {
         Ok(prepared) => prepared,
@@ -168,6 +171,7 @@ where
         Ok(mut desk) => {
             tell_ready(log);
             tick_on(&mut desk, clock, turns);
+            *told = Some(desk);
             Served::Turns
         }
         Err(why) => why,

@@ -1,6 +1,7 @@
 //! A spawner that starts threads.
-ghost use Rattle.std.specs.Prelude.{◌≡◌, []};
+ghost use Rattle.std.specs.Prelude.{◌≡◌, IfSome, []};
 ghost use Rattle.network_serving.specs.Bases.{base_in};
+ghost use Rattle.network_serving.specs.Running.{WasRun};
 ghost use Rattle.network_serving.specs.SpawnerStates.{Starts, bases_in};
 ghost use Rattle.network_serving.specs.Tasks.{IsNew, duty_of};
 
@@ -11,8 +12,9 @@ use crate::tasks::Task;
 use dom_edge::{Listener, Noted, Sink, Source, Store};
 use std::alloc::Global;
 use std::marker::Model;
+use std::snapshot::Snapshot;
 use std::sync::Wait;
-use std::thread::{self, Threads};
+use std::thread::{self, Promise, PromisedHandle, Threads};
 use std::time::Clock;
 
 // How many turns a task may have that runs on a thread.
@@ -69,20 +71,56 @@ impl<T: Threads> ThreadSpawner<T> {
             return Begun::NoMemory;
         }
         let footings = self.footings.and(&task.footing());
-        if start_thread(&self.rt, self.alloc, task) {
-            self.duties.push_reserved(duty);
-            self.footings = footings;
-            Begun::Started
-        } else {
+        let Some(_thread) = start_thread(&self.rt, self.alloc, task) else {
             self.faults = self.faults.saturating_add(1);
-            Begun::Failed
-        }
+            return Begun::Failed;
+        };
+        self.duties.push_reserved(duty);
+        self.footings = footings;
+        Begun::Started
     }
 }
 
+/// A task as it is handed to a thread. The thread promises to give it back as a run of all its turns left it.
+#[derive(Drop)]
+pub(crate) struct AsRun<K, F, I, O, R: Wait + Clock + Drop>(Snapshot<Task<K, F, I, O, R>>);
+
+impl<K, F, I, O, R> Promise<Task<K, F, I, O, R>> for AsRun<K, F, I, O, R>
+where
+    K: Listener + Drop,
+    F: Store + Drop,
+    I: Source + Drop,
+    O: Sink + Drop,
+    R: Wait + Clock + Drop,
+{
+    ghost use Rattle.network_serving.specs.Running.{WasRun};
+
+    ghost kept_by = { λ p task. WasRun (record { opened_at = K.opened_at; heeds = K.heeds; dialled_to = K.dialled_to; accept_faults = K.faults; quiets = K.quiets; handed = K.handed; files = F.files; store_faults = F.faults; failed_at = F.failed_at; left = I.left; input_faults = I.faults; written = O.written; output_faults = O.faults }) p.0.value task };
+}
+
+// Runs the task, and gives it back.
+fn run_all<K, F, I, O, R>(alloc: Global, task: Task<K, F, I, O, R>) -> Task<K, F, I, O, R>
+where
+    K: Listener + Drop,
+    F: Store + Drop,
+    I: Source + Drop,
+    O: Sink + Drop,
+    R: Wait + Clock + Drop,
+    requires new { IsNew K.heeds K.dialled_to task }
+    ensures { WasRun (record { opened_at = K.opened_at; heeds = K.heeds; dialled_to = K.dialled_to; accept_faults = K.faults; quiets = K.quiets; handed = K.handed; files = F.files; store_faults = F.faults; failed_at = F.failed_at; left = I.left; input_faults = I.faults; written = O.written; output_faults = O.faults }) task result }
+{
+    let mut task = task;
+    task.run(alloc, TASK_TURNS);
+    task
+}
+
 // Starts a thread that runs the task. The thread gives the task back, so that nothing of it is dropped while others go on: what
-// an operator published can be read after the operator's input ended.
-fn start_thread<T: Threads, K, F, I, O, R>(rt: &T, alloc: Global, task: Task<K, F, I, O, R>) -> bool
+// an operator published can be read after the operator's input ended. The handle is of a thread that promised so.
+fn start_thread<T: Threads, K, F, I, O, R>(
+    rt: &T,
+    alloc: Global,
+    task: Task<K, F, I, O, R>,
+) -> Option<PromisedHandle<Task<K, F, I, O, R>, AsRun<K, F, I, O, R>>>
 where
     K: Listener + Send + Drop + 'static,
     K::Link: Send + 'static,
@@ -91,16 +129,17 @@ where
     O: Sink + Send + Drop + 'static,
     R: Wait + Clock + Send + Drop + 'static,
     requires new { IsNew K.heeds K.dialled_to task }
+    ensures { IfSome result (λ handle. handle.promise.0.value ≡ task) }
 {
-    let mut task = task;
-    thread::spawn(
+    let promise = AsRun(Snapshot::of(&task));
+    match thread::spawn_with(
         rt,
+        promise,
         move || -> Task<K, F, I, O, R>
             requires { IsNew K.heeds K.dialled_to task }
-        {
-            task.run(alloc, TASK_TURNS);
-            task
-        },
-    )
-    .is_ok()
+        { run_all(alloc, task) },
+    ) {
+        Ok(handle) => Some(handle),
+        Err(_) => None,
+    }
 }

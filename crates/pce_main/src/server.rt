@@ -104,6 +104,7 @@ where
     };
     let alloc = rt.alloc();
     let mut spawner: Spawner<R> = Spawner::Threads(ThreadSpawner::new(threads, alloc));
+    let mut told = None;
     Ended::Served(serve(
         threads,
         alloc,
@@ -118,5 +119,6 @@ where
         &mut OutputSink::new(rt.stderr()),
         at,
         u64::MAX,
+        &mut told,
     ))
 }

@@ -154,6 +154,7 @@ where
 {
     let mut spawner: Spawner<R> = Spawner::Memory(MemorySpawner::new(alloc, only(alloc, thread)?));
     let mut log = MemorySink::new(alloc, List::new(alloc));
+    let mut told = None;
     let served = serve(
         rt,
         alloc,
@@ -168,6 +169,7 @@ where
         &mut log,
         "127.0.0.1",
         3,
+        &mut told,
     );
     let mut end = Vec::new(alloc);
     put_end(&served, &mut end)?;

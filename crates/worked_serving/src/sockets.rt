@@ -101,6 +101,7 @@ fn each_client_is_answered(rt: HostRuntime) -> Result<(), Fail> {
         return Err(Fail::from("no thread"));
     };
     let mut spawner: Spawner<HostRuntime> = Spawner::Threads(ThreadSpawner::new(rt, alloc));
+    let mut told = None;
     let served = serve(
         rt,
         alloc,
@@ -115,6 +116,7 @@ fn each_client_is_answered(rt: HostRuntime) -> Result<(), Fail> {
         &mut MemorySink::new(alloc, List::new(alloc)),
         "127.0.0.1",
         100,
+        &mut told,
     );
     assert!(rt; matches!(served, Served::Turns));
     assert_eq!(rt; clients.join(&rt), Some([ANSWER, ANSWER]));

@@ -36,6 +36,7 @@ loop-peer-preserved g c =
     let s = stand_of c.args.desk.now in
     record {
       stand = c.in_ok-desk.ensures.stand ∙ c.loop-peer.invariant.stand;
+      seats = omega (arith, c.in_ok-desk.ensures.seat, c.loop-peer.invariant.seats);
       adds = port_added g.Q.Port.Listener.opened_at g.Q.Port.Listener.heeds g.Q.Port.Listener.dialled_to s rows k row port row.comes c.args.tasks.now.items c.loop-peer.tasks.items c.push_task.new.tasks.items c.loop-peer-test.true is same refl
           c.loop-peer.invariant.adds
           (one_added g.Q.Port.Listener.opened_at g.Q.Port.Listener.heeds g.Q.Port.Listener.dialled_to s c.loop-peer.tasks.items _ c.push_task.new.tasks.items
