@@ -16,10 +16,16 @@ pub enum DeskRefused {
 pub trait Desk {
     ghost desked: { Self → Desked };
 
+    // Where the desk stands: no event moves it.
+    ghost Place: { Type 0 };
+
+    ghost place: { Self → Self.Place };
+
     /// Makes an event, unless the desk is spent. A desk that is spent makes none and stays spent.
     fn act(&mut self, event: Event) -> Result<Outcome, DeskRefused>
         requires { IsOwnLoad event }
-        ensures { Goes (desked self.old) (desked self.new) event result };
+        ensures goes { Goes (desked self.old) (desked self.new) event result }
+        ensures stays { place self.new ≡ place self.old };
 
     /// The number that the first event that was refused as spent gave.
     fn spent(&self) -> Option<u64>

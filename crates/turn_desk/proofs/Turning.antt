@@ -38,7 +38,7 @@ use Rattle.server_loops.specs.Desks as desk
 use Rattle.server_loops.specs.Desks.{Answer, Goes, call}
 use Rattle.server_loops.specs.declared.desks.DeskRefused.TheVariants.{Plant, Spent}
 use Rattle.server_loops.specs.Benches as bench
-use Rattle.turn_desk.specs.Desks.{IsDone, IsOneTurn, IsTurn, IsTurnBy, Makes, Rests, Stand, bench_call, benched_of, desk_call, desked_of, did_as, did_by}
+use Rattle.turn_desk.specs.Desks.{IsDone, IsOneTurn, IsTurn, IsTurnBy, Makes, Rests, Stand, bench_call, benched_of, desk_call, desked_of, did_as, did_by, site_of}
 use Rattle.turn_desk.specs.Histories.{Begins, known_by}
 use Rattle.turn_desk.proofs.Beginning.{none_is_now}
 use Rattle.turn_desk.proofs.Found.{own_is_seen, picked_from, split_at}
@@ -177,6 +177,11 @@ pub desk_turns : (old new : Stand) (e : Event) (answer : Answer) → IsTurn (Do 
 desk_turns old new e (Ok o) t = one_turn old new (Do e) (IsDone (Ok o)) (Did (Ok o)) (Ok o, refl, refl) t
 desk_turns old new e (Err (Plant why)) t = one_turn old new (Do e) (IsDone (Err (Plant why))) (Did (Err why)) (Err why, refl, refl) t
 desk_turns old new e (Err (Spent number)) r = no_turn old new (Do e) (IsDone (Err (Spent number))) number r
+
+-- no turn moves it
+pub turn_stays : (old new : Stand) (act : Act) (r : Result Acted ℕ) → IsTurn act r old new → site_of new ≡ site_of old
+turn_stays old new act (Ok acted) t = ap (λ (l : TableId). (l, new.start)) t.2.lock ∙ ap (λ (h : Option Held). (old.lock, h)) t.2.start
+turn_stays old new act (Err number) r = ap (λ (l : TableId). (l, new.start)) r.lock ∙ ap (λ (h : Option Held). (old.lock, h)) r.start
 
 -- ---- as a bench
 

@@ -4,7 +4,7 @@ ghost use Rattle.plant_network.specs.declared.acts.Act.TheVariants.{Do, Look as 
 ghost use Rattle.plant_network.specs.declared.acts.Acted.TheVariants.{Looked, Found};
 ghost use Rattle.server_loops.specs.Desks as desk;
 ghost use Rattle.server_loops.specs.Benches as bench;
-ghost use Rattle.turn_desk.specs.Desks.{IsDone, IsFinish, IsOneTurn, IsTurn, benched_of, desked_of, did_by, finished_as, stand_of};
+ghost use Rattle.turn_desk.specs.Desks.{IsDone, IsFinish, IsOneTurn, IsTurn, benched_of, desked_of, did_by, finished_as, site_of, stand_of};
 
 use crate::answers::{committed_in, did_in, found_in, looked_in};
 use crate::desk::TurnDesk;
@@ -57,13 +57,18 @@ impl<R: Wait + Clock> TurnDesk<R> {
 }
 
 impl<R: Wait + Clock> Desk for TurnDesk<R> {
-    ghost use Rattle.turn_desk.specs.Desks.{desked_of, stand_of};
+    ghost use Rattle.turn_desk.specs.Desks.{Site, desked_of, site_of, stand_of};
 
     ghost desked = { λ d. desked_of (stand_of d) };
+
+    ghost Place = { Site };
+
+    ghost place = { λ d. site_of (stand_of d) };
 
     fn act(&mut self, event: Event) -> Result<Outcome, DeskRefused>
         requires { desk.IsOwnLoad event }
         ensures goes { desk.Goes (desked_of (stand_of self.old)) (desked_of (stand_of self.new)) event result }
+        ensures stays { site_of (stand_of self.new) ≡ site_of (stand_of self.old) }
         ensures turn { IsOneTurn (Do event) (IsDone result) (stand_of self.old) (stand_of self.new) }
     {
         self.make(event)
