@@ -11,7 +11,7 @@ use Rattle.network_serving.specs.Files.{IsLoadEnd}
 use Rattle.network_serving.specs.Ports.{AreApart, ports_of}
 use Rattle.network_serving.specs.Runs.{IsAtLock, IsRun}
 use Rattle.server_loops.specs.Serving.{TellsTime}
-use Rattle.turn_desk.specs.Desks.{Stand, desked_of}
+use Rattle.turn_desk.specs.Desks.{Stand, desked_of, site_of}
 use Rattle.network_serving.specs.declared.served.Served.{Served}
 use Rattle.network_serving.specs.declared.served.Served.TheVariants as served
 
@@ -47,7 +47,7 @@ pub record IsPortEnd (w : World) (name : List ℕ) (port : ℕ) : Type 0 where
   pub at_port : w.failed_port ≡ port
 
 -- Exactly the duties of the network were started, in their order, all at one lock, which had just been opened round the network with its
--- topologies, and whose histories are runs of it; and the clock was read in each turn, and the desk that is handed back told each reading that rose.
+-- topologies, and whose histories are runs of it; and the clock was read in each turn, and the desk that is handed back, which stands there, told each reading that rose.
 pub record IsServed (w : World) (name : List ℕ) (turns : ℕ) : Type 0 where
   pub network : NetworkParts
   pub has : HasNetwork w.files name network
@@ -60,6 +60,7 @@ pub record IsServed (w : World) (name : List ℕ) (turns : ℕ) : Type 0 where
   pub read : RoseBy turns w.readings
   pub told : Stand
   pub by : w.told ≡ Some told
+  pub at : site_of told ≡ site_of server.desk
   pub tells : TellsTime turns (desked_of server.desk) (desked_of told) w.last.0 w.last.1
 
 abbrev pub Ends : World → List ℕ → ℕ → Served → Type 0

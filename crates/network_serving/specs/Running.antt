@@ -14,7 +14,7 @@ use Rattle.server_loops.specs.declared.working.Worked.TheVariants as worked
 use Rattle.server_loops.specs.Operating.{Operates, context, side, sides, progress}
 use Rattle.server_loops.specs.declared.operating.Operated.{Operated}
 use Rattle.server_loops.specs.declared.operating.Operated.TheVariants as operated
-use Rattle.turn_desk.specs.Desks.{Stand, benched_of, desked_of, stand_of}
+use Rattle.turn_desk.specs.Desks.{Stand, benched_of, desked_of, site_of, stand_of}
 use Rattle.turn_desk.specs.Works.{works}
 use Rattle.turn_desk.specs.WorkBenches.{bench_of, desk_of}
 use Rattle.turn_desk.specs.Charts.{charted_of}
@@ -63,9 +63,10 @@ module _ {K F I O R : Type 0} (x : Outside K F I O) (turns : ℕ) where
   RunsTask (end.Ran e) (task.Port peer comes listener desk) (task.Port peer' comes' listener' desk') =
       (peer' ≡ peer) × (comes' ≡ comes) × IsSameListener x listener' listener
       × ServesPort peer turns e (desked_of (stand_of desk)) (desked_of (stand_of desk')) (heard_of x listener) (heard_of x listener')
-      × RanAsShown e (stand_of desk')
+      × RanAsShown e (stand_of desk') × (site_of (stand_of desk') ≡ site_of (stand_of desk))
   RunsTask (end.Ran e) (task.Carry links desk) (task.Carry links' desk') =
       (links' ≡ links) × CarriesGuided links turns e (desked_of (stand_of desk)) (desked_of (stand_of desk')) × RanAsShown e (stand_of desk')
+      × (site_of (stand_of desk') ≡ site_of (stand_of desk))
   RunsTask (end.Worked e) (task.Work index cache bench) (task.Work index' cache' bench') =
       (index' ≡ index) × ((passed : List (As × ℕ)) × Runs index turns e (bench_of bench) (bench_of bench') [] passed cache')
       × (works (bench_of bench').calls ≡ works (benched_of (desk_of bench')).calls)
