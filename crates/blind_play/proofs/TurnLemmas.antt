@@ -19,7 +19,7 @@ use Rattle.blind_play.specs.Making.{Does, DoesSome, Makes, MakesTurn, closed_tex
 use Rattle.blind_play.specs.Turns.{IsTurn, Turn, happened_in, turn_text}
 use Rattle.blind_play.proofs.HeardLemmas.{is_silent, is_told}
 
--- an event that was not refused for want of memory happened
+-- an event for which memory did not run out happened
 pub made : (old : Whole) (e : BlindEvent) (answer : Answered) (new : Whole) → Stepped old e answer new → lacks_memory answer ≡ false → Makes old e answer new
 made old e answer new st ok = record {
   network = st.network;

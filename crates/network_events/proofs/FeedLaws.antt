@@ -58,7 +58,7 @@ feeds_err i piece old new why feeds = go (old.accesses i).connection feeds
     go None h = h.1
     go (Some x) h = h.err.1
 
--- memory lacks only where something is taken
+-- memory runs out only where something is taken
 pub feeds_lack : (i : ℕ) (piece : Bytes) (old new : Flow) (why : Refused) → FeedsIn i piece old (Err why) new → why ≡ NoMemory → takes_feed (old.accesses i).connection ≡ true
 feeds_lack i piece old new why feeds lacks = go (old.accesses i).connection feeds
   where

@@ -105,7 +105,7 @@ module _ {P : Type 0} {S : Type 0} (show : S → List Hop) (event : NetworkParts
       kept = kept_grown old f grows is;
     }
 
-    -- memory lacks
+    -- memory ran out
     pub lacks_moves : IsKept old → OnlyGrows old.flow f → needs (whole old).state ≡ true → Moves (OrLacks show needs event) old (Err NoMemory) (record old { flow = f })
     lacks_moves is grows may = refused_moves NoMemory is grows (λ lacks. may) (inr refl)
 

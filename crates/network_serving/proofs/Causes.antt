@@ -112,7 +112,7 @@ topologies_end files before name n a b c failed_at s has same less is =
 pub want_end : (files : Option Files) (name : List ℕ) (counts : ℕ × ℕ) (failed_at : List ℕ) (s : Served) → s ≡ served.NoMemory → IsLoadEnd files name counts failed_at s
 want_end files name counts failed_at s is = inl (subst (IsFileEnd files name settings_max IsSettingsFault counts failed_at) (sym is) tt)
 
--- the lock is not opened, since memory lacks, or a topology is not to be had
+-- the lock is not opened, since memory ran out, or a topology is not to be had
 pub want_open : (files : Option Files) (n : NetworkParts) (counts : ℕ × ℕ) (failed_at : List ℕ) (s : Served) → s ≡ served.NoMemory → IsOpenEnd files n counts failed_at s
 want_open files n counts failed_at s is = inl is
 

@@ -30,7 +30,7 @@ IsFileEnd files name limit IsFault counts failed_at s = ⊥
 abbrev pub IsSettingsFault : List ℕ → ℕ → NetFault → Type 0
 IsSettingsFault bytes line fault = (line ≡ 0) × IsFaulty bytes fault
 
--- the topology that an element's row names is not to be had, or memory lacks
+-- the topology that an element's row names is not to be had, or memory ran out
 abbrev pub IsNamedEnd : Option Files → As → Option (List ℕ) → ℕ × ℕ → List ℕ → Served → Type 0
 IsNamedEnd files at None counts failed_at s = s ≡ served.NoMemory
 IsNamedEnd files at (Some name) counts failed_at s = IsFileEnd files name topology_max (IsTopologyFault at) counts failed_at s

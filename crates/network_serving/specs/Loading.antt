@@ -36,6 +36,6 @@ LoadsNamed files at (Some name) w shown v more = (g : Rows) × FileSays Reads to
 abbrev pub IsBehind : Option Files → NetworkParts → Stand → List Shown → Type 0
 IsBehind files n desk shown = (held : Held) × IsOpened held desk × IsLoaded files n n.elements shown (whole held)
 
--- a topology that the settings name is not to be had, or memory lacks
+-- a topology that the settings name is not to be had, or memory ran out
 abbrev pub IsOpenEnd : Option Files → NetworkParts → ℕ × ℕ → List ℕ → Served → Type 0
 IsOpenEnd files n counts failed_at s = (s ≡ served.NoMemory) ⊎ IsTopologyEnd files n counts failed_at s

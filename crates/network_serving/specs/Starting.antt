@@ -35,19 +35,19 @@ pub record IsClosed (port : ℕ) (faults : ℕ × ℕ) (failed_at : ℕ) (s : Se
   pub failed : Rose faults.0 faults.1
   pub at_port : failed_at ≡ port
 
--- one of these ports can't be listened at, or memory lacks
+-- one of these ports can't be listened at, or memory ran out
 abbrev pub IsPlanEnd : List ℕ → Called → Served → Type 0
 IsPlanEnd ports x (served.NoPort port) = IsUnlistened ports x port
 IsPlanEnd ports x served.NoMemory = Unit {0}
 IsPlanEnd ports x s = ⊥
 
--- a thread can't be started, or memory lacks
+-- a thread can't be started, or memory ran out
 abbrev pub IsUnstarted : ℕ × ℕ → Served → Type 0
 IsUnstarted faults served.NoThread = Rose faults.0 faults.1
 IsUnstarted faults served.NoMemory = Unit {0}
 IsUnstarted faults s = ⊥
 
--- one of these ports can't be listened at, or a thread can't be started, or memory lacks
+-- one of these ports can't be listened at, or a thread can't be started, or memory ran out
 abbrev pub IsStartEnd : List ℕ → Called → ℕ × ℕ → Served → Type 0
 IsStartEnd ports x faults (served.NoPort port) = IsUnlistened ports x port
 IsStartEnd ports x faults served.NoThread = Rose faults.0 faults.1

@@ -13,7 +13,7 @@ ghost use Rattle.server_loops.specs.Operating.{AreOfElements};
 ghost use Rattle.network_serving.specs.Files.{IsFileEnd, IsNamedEnd, IsTopologyEnd, topology_max};
 ghost use Rattle.network_serving.specs.Loaded.{IsLoaded};
 ghost use Rattle.network_serving.specs.Loading.{LoadsAt, LoadsNamed};
-ghost use Rattle.network_serving.specs.declared.served.Served.TheVariants.{NoMemory as WantOfMemory};
+ghost use Rattle.network_serving.specs.declared.served.Served.TheVariants.{NoMemory as OutOfMemory};
 
 use crate::served::Served;
 use crate::settings::{bad_network, read_file};
@@ -66,7 +66,7 @@ fn show<R: Wait + Drop>(
     ensures shown { OnOk result (published publisher.new ≡ published publisher.old ++ shown ∷ []) }
     ensures elements { AreOfElements network.now (published publisher.new) }
     ensures list { list_of publisher.new ≡ list_of publisher.old }
-    ensures err { IfErr result (λ s. s ≡ WantOfMemory) }
+    ensures err { IfErr result (λ s. s ≡ OutOfMemory) }
 {
     let _settings = network.parts();
     match publisher.show(shown) {
@@ -75,7 +75,7 @@ fn show<R: Wait + Drop>(
     }
 }
 
-// Loads a topology and shows it. A first load of an element lacks memory alone, where it is refused.
+// Loads a topology and shows it. A first load of an element is refused only when memory runs out.
 #[tactic(auto, using(crate::proofs::Loads::loads_at))]
 fn load<R: Wait + Drop>(
     plant: &mut Plant,
@@ -91,7 +91,7 @@ fn load<R: Wait + Drop>(
     ensures loads { OnOk result (LoadsAt at topology (whole plant.old) (published publisher.old) (whole plant.new) (published publisher.new)) }
     ensures elements { AreOfElements network.now (published publisher.new) }
     ensures list { list_of publisher.new ≡ list_of publisher.old }
-    ensures err { IfErr result (λ s. s ≡ WantOfMemory) }
+    ensures err { IfErr result (λ s. s ≡ OutOfMemory) }
 {
     let nodes = topology.node_count();
     let links = topology.link_count();

@@ -1,6 +1,6 @@
-//! A worker that goes on where memory lacked.
+//! A worker that goes on after memory ran out.
 ghost use Rattle.std.specs.Prelude.{◌≡◌, ◌≢◌, ◌↔◌, [], ℕ, Some, true};
-ghost use Rattle.server_loops.specs.declared.working.Worked.TheVariants.{NoMemory as WantOfMemory, Spent as SpentAt};
+ghost use Rattle.server_loops.specs.declared.working.Worked.TheVariants.{NoMemory as OutOfMemory, Spent as SpentAt};
 ghost use Rattle.turn_desk.specs.WorkBenches.{bench_of};
 ghost use Rattle.network_serving.specs.Working.{IsTry, WorksOn};
 
@@ -48,7 +48,7 @@ fn try_once<R: Wait + Clock>(
 ) -> Worked
     requires new { is_new ≡ true → cache.old.entries ≡ [] }
     ensures tries { IsTry index turns result (bench_of bench.old) (bench_of bench.new) cache.new }
-    ensures spent { result ≢ WantOfMemory → (t : ℕ) → (result ≡ SpentAt t) ↔ ((bench_of bench.new).spent ≡ Some t) }
+    ensures spent { result ≢ OutOfMemory → (t : ℕ) → (result ≡ SpentAt t) ↔ ((bench_of bench.new).spent ≡ Some t) }
 {
     if !renew(alloc, bench, cache, is_new) {
         return Worked::NoMemory;
@@ -58,7 +58,7 @@ fn try_once<R: Wait + Clock>(
     worked
 }
 
-/// Makes so many turns. Where memory lacked the worker rests and begins anew, with a cache that is new, so many times at most.
+/// Makes so many turns. Where memory ran out the worker rests and begins anew, with a cache that is new, so many times at most.
 #[tactic(auto, using(crate::proofs::Workings::none_lacked, crate::proofs::Workings::one_lacked, crate::proofs::Workings::works_by, crate::proofs::Workings::works_out))]
 pub(crate) fn work_on<R: Wait + Clock>(
     alloc: Global,
@@ -70,7 +70,7 @@ pub(crate) fn work_on<R: Wait + Clock>(
     requires new { cache.old.entries ≡ [] }
     ensures works { WorksOn index turns turns result (bench_of bench.old) (bench_of bench.new) cache.new }
     ensures spent { (t : ℕ) → (result ≡ SpentAt t) ↔ ((bench_of bench.new).spent ≡ Some t) }
-    ensures lasts { result ≢ WantOfMemory }
+    ensures lasts { result ≢ OutOfMemory }
 {
     for run in 0..turns {
         match try_once(alloc, bench, cache, run == 0, index, turns) {

@@ -213,7 +213,7 @@ impl<W: World> Element<W> {
         self.take_path(asker, wanted)
     }
 
-    // The notice is made before the table is looked at, so that a full table is never left unanswered for lack of memory.
+    // The notice is made before the table is looked at, so that a full table is answered even where memory then runs out.
     fn take_wish(&self, asker: Asker, wish: Wish, now: Tick) -> Result<DraftIn<W>, NoMemory>
         requires { number_of self.now.losing.element.pending asker.peer asker.id ≡ None }
         ensures { IfOk result (IsDraft self.now (take_wish W.show self.now.place (sight self.now.current asker.peer asker.class) now.0 asker.flags asker.id self.now.losing.element wish)) }

@@ -94,7 +94,7 @@ impl Parent {
         self.ask_all(peer, flags, id, wanted)
     }
 
-    // The notice is made before the table is looked at, so that a full table is never left unanswered for lack of memory.
+    // The notice is made before the table is looked at, so that a full table is answered even where memory then runs out.
     fn take_wish(&self, peer: Peer, flags: u32, id: u32, wish: Wish) -> Result<Draft, NoMemory>
         requires { number_of self.now.losing.parent.pending peer id ≡ None }
         ensures { IfOk result (IsDraft self.now (take_wish self.now.family peer flags id self.now.losing.parent wish)) }

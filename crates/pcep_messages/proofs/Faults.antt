@@ -22,7 +22,7 @@ not_memory : (r : Result (Object × ℕ) (ℕ → ObjectFault)) (place : ℕ) (f
 not_memory (Ok x) place fault is e = absurd cc
 not_memory (Err f) place fault is e = cc (ap (λ (g : ℕ → Bad). g place) (same faults.Malformed fault is))
 
--- no message is at fault for want of memory
+-- no message is at fault where memory ran out
 pub no_memory_at_fault : (bytes : List ℕ) → members_of bytes ≡ Err faults.NoMemory → ⊥
 no_memory_at_fault bytes is = fault_of_one member_at (λ f. f ≡ faults.NoMemory → ⊥) (λ b place fault e. not_memory (object_at b) place fault e) 4 0 bytes faults.NoMemory is refl
 

@@ -32,7 +32,7 @@ whole h = holding.whole nothing_first h
 abbrev pub IsSound : Held → Type 0
 IsSound h = holding.IsSound nothing_first h
 
--- An event is what happens in the model, or it is refused for want of memory; an event that is refused changes nothing. What was
+-- An event is what happens in the model, or it is refused when memory runs out; an event that is refused changes nothing. What was
 -- said is what its deeds put into queues; after a refusal it is as before.
 abbrev pub Stepped : Whole → BlindEvent → Answered → Whole → Type 0
 Stepped old e answer new = network.Stepped (λ n s h. BlindSteps wire n s e h) old answer new

@@ -45,7 +45,7 @@ IsWork w d k None = is_ready d k w.state ≡ false
 IsWork w d k (Some (work.Domain j)) = (same_as d parent_as ≡ false) × IsAsked w d k j.ask (arc_value j.topology)
 IsWork w d k (Some (work.Border j)) = (same_as d parent_as ≡ true) × IsAskedAbove w k j
 
--- a request can be solved, of an element or of the parent, where there is one: a solve of it is refused for want of memory alone
+-- a request can be solved, of an element or of the parent, where there is one: a solve of it is refused only when memory runs out
 pub record CanSolve (w : Whole) (d : As) (k : ℕ) : Type 0 where
   pub has : has_jobs w.network d ≡ true
   pub ready : is_ready d k w.state ≡ true

@@ -12,7 +12,7 @@ use Rattle.network_events.specs.Whole as network
 abbrev pub Whole : Type 0
 Whole = network.Whole Pin Segment
 
--- An event is what happens in the model, or it is refused for want of memory; an event that is refused changes nothing. What was
+-- An event is what happens in the model, or it is refused when memory runs out; an event that is refused changes nothing. What was
 -- said is what its deeds put into queues; after a refusal it is as before.
 abbrev pub Stepped : Whole → Event → Answered → Whole → Type 0
 Stepped old e answer new = network.Stepped (λ n s h. Steps wire n s e h) old answer new

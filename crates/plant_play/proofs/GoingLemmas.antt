@@ -28,7 +28,7 @@ use Rattle.plant_play.proofs.TurnLemmas.{one_more}
 
 -- ---- an event that is done
 
--- an event that was not refused for want of memory happened
+-- an event for which memory did not run out happened
 pub made : (old : Whole) (e : Event) (answer : Answered) (new : Whole) → Stepped old e answer new → lacks_memory answer ≡ false → Makes old e answer new
 made old e answer new st ok = record {
   network = st.network;

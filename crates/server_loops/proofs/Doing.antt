@@ -45,7 +45,7 @@ goes_as P Q f (Err end) a b spent before after goes = (goes.0, ⊎_elim (λ (e :
 pub goes_said : (P : Work → Type 0) (text : List ℕ) (a : Past) (spent : Option ℕ) (before after : List ℕ) → P (record { calls = []; shown = []; text = text }) → spent ≡ None → after ≡ before ++ text → Goes P (Ok tt) a a spent before after
 goes_said P text a spent before after does fresh told = (record { work = record { calls = []; shown = []; text = text }; does = does; calls = sym (append-nil a.calls); shown = sym (append-nil a.shown); told = told }, fresh)
 
--- memory lacks before anything is done
+-- memory ran out before anything is done
 pub goes_lack : (P : Work → Type 0) (end : Operated) (a : Past) (spent : Option ℕ) (before after : List ℕ) → end ≡ NoMemory → spent ≡ None → Goes P (Err end) a a spent before after
 goes_lack P end a spent before after is fresh = subst (λ (e : Operated). Goes P (Err e) a a spent before after) (sym is) (fresh, inl refl)
 
@@ -79,7 +79,7 @@ module _ (n : NetworkParts) (number : ℕ) (at : As) (g : Rows) (answer : Result
         published.5,
       )
 
-  -- the answer is not told, since memory lacks
+  -- the answer is not told, since memory ran out
   pub load_untold : (a m b : Past) (end : Operated) (spent : Option ℕ) (before after : List ℕ) → m.calls ≡ a.calls ++ Did (event.Load at g) answer ∷ [] → m.shown ≡ a.shown
       → Publishes (Ok tt) at (is_done answer && is_element n at) m b spent → end ≡ NoMemory → Goes (Loads n number at g a.shown []) (Err end) a b spent before after
   load_untold a m b end spent before after did same published is =
@@ -197,7 +197,7 @@ module _ (n : NetworkParts) (number : ℕ) (at : As) (g : Rows) (list : List Sho
 
 -- ---- files
 
--- a file is refused, or memory lacks
+-- a file is refused, or memory ran out
 pub refused_goes : (P : Work → Type 0) (number : ℕ) (name : List ℕ) (why : FileError) (r : Result (Unit {0}) Operated) (a : Past) (spent : Option ℕ) (before after : List ℕ)
     → ((place : ℕ) (fault : NetFault) → why ≡ BadFile place fault → P (record { calls = []; shown = []; text = bad_network_text number name place fault })) → spent ≡ None → Refuses number name why r before after → Goes P r a a spent before after
 refused_goes P number name why (Err end) a spent before after f fresh refuses = goes_lack P end a spent before after refuses fresh
@@ -209,7 +209,7 @@ pub one_done : (P : Work → Type 0) (call : Call) (text : List ℕ) (o a : Past
 one_done P call text o a spent before after does fresh calls shown told =
     (record { work = record { calls = call ∷ []; shown = []; text = text }; does = does; calls = calls; shown = shown ∙ sym (append-nil o.shown); told = told }, fresh)
 
--- memory lacks after one question, whatever it was answered
+-- memory ran out after one question, whatever it was answered
 pub one_untold : (P : Work → Type 0) (end : Operated) (at : As) (m other : Current) (some : Work) (rest : List Call) (o a : Past) (spent : Option ℕ) (before after : List ℕ) → P some → some.calls ≡ Mapped at other ∷ rest → end ≡ NoMemory → spent ≡ None → a.calls ≡ o.calls ++ Mapped at m ∷ [] → a.shown ≡ o.shown → Goes P (Err end) o a spent before after
 one_untold P end at m other some rest o a spent before after does is lack fresh calls shown =
     subst (λ (e : Operated). Goes P (Err e) o a spent before after) (sym lack)
@@ -278,7 +278,7 @@ shown_none at old new list asked = (Mapped at (Ok None) ∷ [], [], (Ok None, re
 pub shown_some : (at : As) (found : ℕ × Rows) (old new : Charted) (list more : List Shown) → Asked at (Ok (Some found)) old new → more ≡ list ++ shown_by at (Ok (Some found)) list → Publishes (Ok tt) at true (past old list) (past new more) new.spent
 shown_some at found old new list more asked is = (Mapped at (Ok (Some found)) ∷ [], shown_by at (Ok (Some found)) list, (Ok (Some found), refl, refl), asked.0, is, asked.1)
 
--- an entry for which memory lacks
+-- an entry for which memory ran out
 pub shown_lack : (at : As) (found : ℕ × Rows) (end : Operated) (old new : Charted) (list more : List Shown) → Asked at (Ok (Some found)) old new → end ≡ NoMemory → more ≡ list → Publishes (Err end) at true (past old list) (past new more) new.spent
 shown_lack at found end old new list more asked is same =
     subst (λ (e : Operated). Publishes (Err e) at true (past old list) (past new more) new.spent) (sym is) (refl, asked.1, inr (Ok (Some found), asked.0, same))
@@ -390,7 +390,7 @@ asked_goes_file x number e f a b r p q spent before after is goes =
     goes_as (DoesFile x number (file_of e) a b) (DoesAsked x number (Some (Some e)) a b) (asked_file x number e a b) r p q spent before after
     (subst (λ (k : Option (Bool × As × List ℕ)). Goes (DoesFile x number k a b) r p q spent before after) (sym is) goes)
 
--- one thing is said, or memory lacks
+-- one thing is said, or memory ran out
 pub said_or : (P : Work → Type 0) (text : List ℕ) (r : Result (Unit {0}) Operated) (p : Past) (spent : Option ℕ) (before after : List ℕ) → P (record { calls = []; shown = []; text = text }) → spent ≡ None → OnOk r (after ≡ before ++ text) → IfErr r (λ (e : Operated). e ≡ NoMemory) → Goes P r p p spent before after
 said_or P text (Ok u) p spent before after does fresh told lack = goes_said P text p spent before after does fresh told
 said_or P text (Err end) p spent before after does fresh told lack = goes_lack P end p spent before after lack fresh
@@ -399,12 +399,12 @@ pub asked_told : (P : Work → Type 0) (at : As) (m : Current) (text : List ℕ)
 asked_told P at m text (Ok u) old new list before after does fresh calls told lack = one_done P (Mapped at m) text (past old list) (past new list) new.spent before after does fresh calls refl told
 asked_told P at m text (Err end) old new list before after does fresh calls told lack = one_untold P end at m m (record { calls = Mapped at m ∷ []; shown = []; text = text }) [] (past old list) (past new list) new.spent before after does refl lack fresh calls refl
 
--- an entry is shown where it is newer, or memory lacks
+-- an entry is shown where it is newer, or memory ran out
 pub shown_goes : (at : As) (found : ℕ × Rows) (r : Result (Unit {0}) Operated) (old new : Charted) (list more : List Shown) → Asked at (Ok (Some found)) old new → OnOk r (more ≡ list ++ shown_by at (Ok (Some found)) list) → IfErr r (λ (e : Operated). (e ≡ NoMemory) × (more ≡ list)) → Publishes r at true (past old list) (past new more) new.spent
 shown_goes at found (Ok u) old new list more asked shown lack = shown_some at found old new list more asked shown
 shown_goes at found (Err end) old new list more asked shown lack = shown_lack at found end old new list more asked lack.0 lack.1
 
--- a load is told, or memory lacks
+-- a load is told, or memory ran out
 pub load_told : (n : NetworkParts) (number : ℕ) (at : As) (g : Rows) (answer : Result Outcome Refused) (r : Result (Unit {0}) Operated) (a m b : Past) (spent : Option ℕ) (before after : List ℕ) → m.calls ≡ a.calls ++ Did (event.Load at g) answer ∷ [] → m.shown ≡ a.shown
     → Publishes (Ok tt) at (is_done answer && is_element n at) m b spent → OnOk r (after ≡ before ++ answer_line number answer) → IfErr r (λ (e : Operated). e ≡ NoMemory) → Goes (Loads n number at g a.shown []) r a b spent before after
 load_told n number at g answer (Ok u) a m b spent before after did same published told lack = load_done n number at g answer a m b spent before after did same published told

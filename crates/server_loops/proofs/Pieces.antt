@@ -176,7 +176,7 @@ module _ (x : Context) where
     said = refl;
   }
 
-  -- a byte for which memory lacks
+  -- a byte for which memory ran out
   pub byte_lacks : (byte : ℕ) (line : List ℕ) (k : ℕ) (end : Operated) (a : Progress) (old : Side) → end ≡ NoMemory → CutsOff x end ⊥ (byte ∷ []) line k a a old old
   byte_lacks byte line k end a old is = record {
     rest = line ++ byte ∷ [];
@@ -223,7 +223,7 @@ module _ (x : Context) where
   line_fed line f g (Err ReadFault) a b old new spent never lasts ends = absurd lasts
   line_fed line f g (Err Turns) a b old new spent never lasts ends = absurd lasts
 
-  -- a byte that is kept, or for which memory lacks
+  -- a byte that is kept, or for which memory ran out
   pub pushed : (byte : ℕ) (line : List ℕ) (f g : Begun) (r : Result (Unit {0}) Operated) (a : Progress) (old : Side) → g.before ≡ f.before
       → OnOk r ((l : List ℕ) → IsBegun f.bytes f.is_long l → IsBegun g.bytes g.is_long (l ++ byte ∷ [])) → IfErr r (λ (e : Operated). e ≡ NoMemory) → IsBegun f.bytes f.is_long line → Feeds x (byte ∷ []) r line f g a a old old
   pushed byte line f g (Ok t) a old same keeps lack is = byte_fed byte line f g a old same (keeps line is)

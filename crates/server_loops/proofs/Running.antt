@@ -105,7 +105,7 @@ module _ (index n : ℕ) (old mid new : Benched) (passed passed_mid passed_after
     right = t.ends.right;
   }
 
-  -- a run that want of memory ends
+  -- a run in which memory runs out
   pub broken : (turns : ℕ) (e : NoMemory) → mid.spent ≡ None → n < turns → IsTurned index (Err e) mid new passed_mid passed_after cache cache_after →
       Runs index turns WantOfMemory old new passed passed_after cache_after
   broken turns e live below t = record {

@@ -98,7 +98,7 @@ module _ (index : ℕ) (old mid new : Benched) (found : Option (As × ℕ)) (fir
   pub found_two : IsFound index old new found
   found_two = found_by mid.spent new.spent refl refl
 
--- a job that was not solved for want of memory
+-- a job that was not solved since memory ran out
 pub unsolved : (work : Work) (b : Benched) (before after : Entries) (e : NoMemory) → IsLive b → IsFinished work (Err e) b b before after
 unsolved work b before after e live = record {
   made = [];

@@ -103,7 +103,7 @@ IsEndOf (Spent t) spent = spent ≡ Some t
 IsEndOf NoMemory spent = spent ≡ None
 IsEndOf end spent = ⊥
 
--- The current topology is asked for and shown, where that is due; or it is not shown, since the chart is spent or memory lacks.
+-- The current topology is asked for and shown, where that is due; or it is not shown, since the chart is spent or memory ran out.
 abbrev pub Publishes : Result (Unit {0}) Operated → As → Bool → Past → Past → Option ℕ → Type 0
 Publishes (Ok u) at is_due a b spent = (asked : List Call) × (shown : List Shown) × ShowsMapped at is_due a.shown asked shown × (b.calls ≡ a.calls ++ asked) × (b.shown ≡ a.shown ++ shown) × (spent ≡ None)
 Publishes (Err end) at is_due a b spent = (is_due ≡ true) × IsEndOf end spent × ((b ≡ a) ⊎ ((m : Current) × (b.calls ≡ a.calls ++ Mapped at m ∷ []) × (b.shown ≡ a.shown)))

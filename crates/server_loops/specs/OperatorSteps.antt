@@ -69,7 +69,7 @@ Goes Does (Err end) a b spent before after = IsEndOf end spent × ((b ≡ a) ⊎
 abbrev pub GoesFrom : List Call → (Work → Type 0) → Result (Unit {0}) Operated → Past → Past → Option ℕ → List ℕ → List ℕ → Type 0
 GoesFrom earlier Does result a b spent before after = (o : Past) → (a.calls ≡ o.calls ++ earlier) → (a.shown ≡ o.shown) → Goes Does result o b spent before after
 
--- the file is refused, or memory lacks
+-- the file is refused, or memory ran out
 abbrev pub Refuses : ℕ → List ℕ → FileError → Result (Unit {0}) Operated → List ℕ → List ℕ → Type 0
 Refuses number name why (Err end) before after = end ≡ NoMemory
 Refuses number name (BadFile place fault) (Ok u) before after = after ≡ before ++ bad_network_text number name place fault

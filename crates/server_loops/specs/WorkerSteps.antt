@@ -86,7 +86,7 @@ pub record IsFinished (work : Work) (end : Result (Unit {0}) NoMemory) (old new 
   pub no_jobs : jobs_given made ≡ []
   pub no_keys : keys_given made ≡ []
 
--- what a turn leaves that want of memory does not end
+-- what a turn leaves where memory does not run out
 pub record IsWhole (index : ℕ) (made : List Call) (new : Benched) (before after : Entries) : Type 0 where
   pub turn : TurnBy new.spent index made
   pub key : Option Key

@@ -29,7 +29,7 @@ Follows (Ok None) calls = calls ≡ []
 Follows (Ok (Some work)) calls = (done : Done) × (answer : Finished) × IsOf done work × (answer ≢ NoRoom) × (calls ≡ Finish done answer ∷ [])
 Follows (Err e) calls = ⊥
 
--- and in a turn that want of memory ends
+-- and in a turn in which memory runs out
 abbrev pub Breaks : Result (Option Work) NoMemory → List Call → Type 0
 Breaks (Ok None) calls = ⊥
 Breaks (Ok (Some work)) calls = (calls ≡ []) ⊎ ((done : Done) × IsOf done work × (calls ≡ Finish done NoRoom ∷ []))
@@ -54,7 +54,7 @@ pub record IsTurn (index : ℕ) (calls : List Call) : Type 0 where
   pub goes_on : GoesOn Follows found rest
   pub is : calls ≡ asked ++ rest
 
--- a turn that want of memory ends
+-- a turn in which memory runs out
 pub record IsBroken (index : ℕ) (calls : List Call) : Type 0 where
   pub asked : List Call
   pub job : As × ℕ

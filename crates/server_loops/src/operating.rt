@@ -143,7 +143,7 @@ fn run<T: Store, I: Source, K: Sink, D: Chart, R: Wait + Drop>(
 /// AS FILE` the current one with the changes of a file. What came of each is written under its number. After a load of an
 /// element that was accepted its current topology is shown to watchers, where it is newer. In each turn it reads once.
 ///
-/// A load that lacks memory in the network is told as such, and the next line is read; so is a file that is refused. Where
+/// A load for which the network has no memory is told as such, and the next line is read; so is a file that is refused. Where
 /// what is said of a line can't be written, the next line is read all the same. A chart that is spent ends it at once.
 pub fn operate<T: Store, I: Source, K: Sink, D: Chart, R: Wait + Drop>(
     alloc: Global,

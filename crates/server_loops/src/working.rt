@@ -10,7 +10,7 @@ use cost_cache::Cache;
 use dom_base::NoMemory;
 use std::alloc::Global;
 
-/// How a worker ended: after all its turns, where the bench was spent, or for want of memory.
+/// How a worker ended: after all its turns, where the bench was spent, or when memory ran out.
 #[derive(Clone, Copy)]
 pub enum Worked {
     Turns,

@@ -20,7 +20,7 @@ use std::sync::Wait;
 use std::thread;
 use std::time::{Clock, Duration};
 
-// How long a worker rests that lacked memory, in milliseconds.
+// How long a worker rests that ran out of memory, in milliseconds.
 const REST_MILLIS: u64 = 100;
 
 // One note more, unless the desk is spent by then.
@@ -52,7 +52,7 @@ impl<R: Wait + Clock> WorkBench<R> {
         self.desk.let_go(self.worker);
     }
 
-    /// Waits a tenth of a second, so that a worker that lacks memory keeps no processor busy.
+    /// Waits a tenth of a second, so that a worker that is out of memory keeps no processor busy.
     pub fn rest(&self) {
         thread::sleep(&self.desk.rt, Duration::from_millis(REST_MILLIS));
     }

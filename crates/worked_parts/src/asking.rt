@@ -67,7 +67,7 @@ fn serve<R: Wait>(
     serve_watch(rt, alloc, watcher, link, turns)
 }
 
-// Whether a connection goes as its row says; none where it is no row, or memory lacks.
+// Whether a connection goes as its row says; none where it is no row, or memory ran out.
 fn holds<R: Wait>(rt: &R, alloc: Global, watcher: &mut Watcher, row: &[u8]) -> Option<bool> {
     let mut parts = row.split(|c| *c == b'|');
     let pieces = parts.next()?;

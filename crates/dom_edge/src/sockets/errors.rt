@@ -4,7 +4,7 @@ ghost use Rattle.std.specs.IoError.{error_kind};
 
 use std::io::{self, ErrorKind};
 
-// The system's numbers of the errors that a program has too many descriptors open, that the machine has, and that memory lacks.
+// The system's numbers of four errors: too many descriptors in this program, too many on this machine, out of memory, no buffer space.
 const OUR_OWN: [i32; 4] = [24, 23, 12, 105];
 
 // Whether a call would have waited longer, or a signal cut it short.

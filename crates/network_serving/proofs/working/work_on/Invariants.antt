@@ -3,7 +3,7 @@ use Rattle.turn_desk.specs.WorkBenches.{bench_of}
 use Rattle.network_serving.specs.Working.{HaveLacked}
 use Rattle.network_serving.proofs.working.work_on.Given as goal
 
--- in all tries so far memory lacked, and before the first the cache is new
+-- in all tries so far memory ran out, and before the first the cache is new
 abbrev pub invariant-loop-run : goal.invariant-loop-run
 invariant-loop-run g l = record {
   lacked : HaveLacked l.index l.turns l.run (bench_of l.initial.bench) (bench_of l.bench);
