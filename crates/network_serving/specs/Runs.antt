@@ -35,4 +35,4 @@ pub record IsRun (n : NetworkParts) (older : List Entry) (s : Stand) : Type 0 wh
   pub run : Run wire n (newer ++ older) left
   pub written : (i : ℕ) → IsAlone i s → (front made back : List Call) → (desked_of s).calls ≡ front ++ (made ++ back) → (holder turns : ℕ) (end : Ended) (before after : Sides) → OverLink i holder turns end made before after →
       (bytes : List ℕ) → Wrote before.writing after.writing bytes → (bytes ≡ []) ⊎ IsPutFor n (newer ++ older) i bytes
-  pub closed : (i : ℕ) → is_closed n (Outside i) ≡ true → (bytes : List ℕ) → IsPutFor n (newer ++ older) i bytes → IsSaidBlindly n (newer ++ older) i bytes
+  pub closed : (i : ℕ) → is_closed n (Outside i) ≡ true → (bytes : List ℕ) → (put : IsPutFor n (newer ++ older) i bytes) → IsSaidBlindly n (newer ++ older) i bytes put
