@@ -77,8 +77,8 @@ module _ {K F I O R : Type 0} (x : Outside K F I O) (turns : ℕ) where
       (sides (side (x.left input) (x.input_faults input)) (side (x.written out) (x.output_faults out)))
       (sides (side (x.left input') (x.input_faults input')) (side (x.written out') (x.output_faults out')))
       × OperatedAsShown e (stand_of desk')
-  RunsTask end.Watching (task.Watch rt watcher listener) (task.Watch rt' watcher' listener') =
-      IsSameListener x listener' listener × WatchesPort turns (known watcher) (known watcher') (heard_of x listener) (heard_of x listener')
+  RunsTask end.Watching (task.Watch rt index watcher listener) (task.Watch rt' index' watcher' listener') =
+      (index' ≡ index) × IsSameListener x listener' listener × WatchesPort turns (known watcher) (known watcher') (heard_of x listener) (heard_of x listener')
   RunsTask e old new = ⊥
 
 -- the first of these tasks became the second in a run of all turns that a number of 64 bits counts

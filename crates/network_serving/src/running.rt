@@ -58,6 +58,7 @@ impl<K: Listener, F: Store, I: Source, O: Sink, R: Wait + Clock + Drop> Task<K, 
             }
             Task::Watch {
                 rt,
+                index: _,
                 watcher,
                 listener,
             } => {
