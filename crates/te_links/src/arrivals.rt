@@ -24,7 +24,6 @@ pub struct Arrivals<'a> {
 
 impl<'a> Model for Arrivals<'a> {
     ghost use Rattle.std.specs.Prelude.{◌≡◌, ◌<◌, length, All};
-
     ghost use Rattle.te_links.specs.Arrivals.{Arrived};
 
     ghost Value = { Arrived };

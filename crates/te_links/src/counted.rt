@@ -98,11 +98,6 @@ impl<'a> Links<'a> for Counted<'a> {
         self.topology.link_at(i)
     }
 
-    fn link_with_tail(&mut self, i: u32) -> (&'a Link, u32) {
-        self.count(1);
-        (self.topology.link_at(i), self.topology.tail_of(i))
-    }
-
     fn link_with_head(&mut self, i: u32) -> (&'a Link, u32) {
         self.count(1);
         (self.topology.link_at(i), self.topology.head_of(i))

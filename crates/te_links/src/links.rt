@@ -10,8 +10,8 @@ use crate::rows::OutLink;
 use dom_base::{Addr, Link};
 
 /// The rows of a topology, as a search sees them. An inner link is seen through `read_into`,
-/// `link_at`, `link_with_tail` and `link_with_head` alone, which count. Results live as long as the
-/// topology, and do not borrow the value.
+/// `link_at` and `link_with_head` alone, which count. Results live as long as the topology, and do
+/// not borrow the value.
 pub trait Links<'a> {
     /// The topology, which no call changes.
     ghost rows: { Self → Rows };
@@ -69,15 +69,6 @@ pub trait Links<'a> {
     fn link_at(&mut self, i: u32) -> &'a Link
         requires { i < length (rows self.old).links }
         ensures link { slice_get (rows self.old).links i ≡ Some result.now }
-        ensures same { rows self.new ≡ rows self.old }
-        ensures counted { RoseByOne (reads self.old) (reads self.new) };
-
-    /// Reads an inner link as `link_at` does, with the place of the node that it
-    /// begins at.
-    fn link_with_tail(&mut self, i: u32) -> (&'a Link, u32)
-        requires { i < length (rows self.old).links }
-        ensures link { slice_get (rows self.old).links i ≡ Some result.0.now }
-        ensures tail { slice_get (rows self.old).nodes result.1 ≡ Some result.0.now.from }
         ensures same { rows self.new ≡ rows self.old }
         ensures counted { RoseByOne (reads self.old) (reads self.new) };
 
