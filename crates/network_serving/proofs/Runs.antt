@@ -1,5 +1,6 @@
 -- The histories of a server's lock are runs.
 use Rattle.std.proofs.Common.{◌≡◌, ◌∙◌, ◌⊎◌, ℕ, List, [], ◌∷◌, ◌++◌, append-nil, map, Option, Some, ap, refl, subst, sym}
+use Rattle.atomic_table.specs.Seated.{TableId}
 use Rattle.dom_edge.specs.Stores.{Files}
 use Rattle.plant_lock.specs.History.{Legal, replay}
 use Rattle.plant_lock.specs.Views.{LegalFrom}
@@ -7,7 +8,7 @@ use Rattle.plant_network.specs.plant_model.declared.event.Event.{Event}
 use Rattle.plant_network.specs.plant_model.Events.{Answered}
 use Rattle.plant_network.specs.plant_model.Plant.{Entry, Plant, Run}
 use Rattle.plant_network.specs.plant_model.RealWire.{wire}
-use Rattle.plant_network.specs.Histories.{done_by, events_of}
+use Rattle.plant_network.specs.Histories.{AreGiven, done_by, events_of}
 use Rattle.plant_network.specs.Topologies.{Held, whole}
 use Rattle.plant_network.specs.Turns.{Admits, Allowed, left_by}
 use Rattle.plant_network.proofs.HistoryLemmas.{histories_are_runs}
@@ -26,7 +27,7 @@ loads_quiet : (i : ℕ) (ls : List Load) → at_peer i (load_events ls) ≡ []
 loads_quiet i [] = refl
 loads_quiet i (l ∷ ls) = filter_on (is_at i) (load_events ls) (load_event l ∷ []) ∙ ap (λ (es : List (Event × Answered)). es ++ []) (loads_quiet i ls)
 
-module _ (files : Option Files) (n : NetworkParts) (x : Server) (ready : IsReady files n x) (s : Stand) (at : IsAtLock x.desk s) where
+module _ (files : Option Files) (n : NetworkParts) (x : Server) (ready : IsReady files n x) (s : Stand) (at : IsAtLock x.desk s) (given : AreGiven s.seen) where
   abbrev held : Held
   held = ready.held
 
@@ -34,7 +35,7 @@ module _ (files : Option Files) (n : NetworkParts) (x : Server) (ready : IsReady
   loaded = ready.loaded
 
   starts : s.start ≡ Some held
-  starts = at.start ∙ ap (λ (z : Stand). z.start) ready.opened
+  starts = ap (λ (z : TableId × Option Held). z.1) at.site ∙ ap (λ (z : Stand). z.start) ready.opened
 
   legal : Legal Admits Allowed left_by (whole held) s.seen
   legal = subst (λ (o : Option Held). LegalFrom whole Admits Allowed left_by o s.seen) starts at.legal
@@ -45,7 +46,7 @@ module _ (files : Option Files) (n : NetworkParts) (x : Server) (ready : IsReady
   pub is_run : IsRun n loaded.entries s
   is_run =
       let run : Run wire (whole held).network loaded.entries (whole held).state = subst (λ (m : NetworkParts). Run wire m loaded.entries (whole held).state) (sym loaded.network) loaded.run in
-      let on = histories_are_runs (whole held) loaded.entries s.seen at.given run legal in
+      let on = histories_are_runs (whole held) loaded.entries s.seen given run legal in
       let goes : Run wire n (on.0 ++ loaded.entries) left = subst (λ (m : NetworkParts). Run wire m (on.0 ++ loaded.entries) left) loaded.network on.1 in
       record {
         newer = on.0;

@@ -13,7 +13,8 @@ use te_links::Topology;
 
 /// The current topology of an element, with its number.
 pub(crate) fn ask<D: Chart>(desk: &mut D, at: As) -> Result<Option<(u64, Arc<Topology>)>, Operated>
-    ensures { Asked at (answered arc_value result) (D.charted desk.old) (D.charted desk.new) }
+    ensures asked { Asked at (answered arc_value result) (D.charted desk.old) (D.charted desk.new) }
+    ensures stays { D.site desk.new ≡ D.site desk.old }
 {
     let found = desk.map(at)?;
     match desk.spent() {
@@ -29,7 +30,8 @@ pub(crate) fn act<D: Chart>(
     topology: Topology,
 ) -> Result<Result<Outcome, Refused>, Operated>
     requires own { topology.own ≡ at }
-    ensures { Acted at topology result (D.charted desk.old) (D.charted desk.new) }
+    ensures acted { Acted at topology result (D.charted desk.old) (D.charted desk.new) }
+    ensures stays { D.site desk.new ≡ D.site desk.old }
 {
     match desk.act(Event::Load(at, topology)) {
         Ok(outcome) => Ok(Ok(outcome)),

@@ -138,6 +138,7 @@ fn do_asked<T: Store, D: Chart, R: Wait + Drop>(
     requires elements { AreOfElements network.now (published publisher.old) }
     requires fresh { (D.charted desk.old).spent ≡ None }
     ensures goes { Goes (DoesAsked (context network.now (T.files store.old)) number (Some (Some asked)) (progress (D.charted desk.old) (published publisher.old) (T.faults store.old) (T.failed_at store.old)) (progress (D.charted desk.new) (published publisher.new) (T.faults store.new) (T.failed_at store.new))) result (past (D.charted desk.old) (published publisher.old)) (past (D.charted desk.new) (published publisher.new)) (D.charted desk.new).spent into.old.items into.new.items }
+    ensures stays { D.site desk.new ≡ D.site desk.old }
     ensures elements { AreOfElements network.now (published publisher.new) }
     ensures list { list_of publisher.new ≡ list_of publisher.old }
     ensures later { T.faults store.old ≤ T.faults store.new }
@@ -172,6 +173,7 @@ fn do_text<T: Store, D: Chart, R: Wait + Drop>(
     requires elements { AreOfElements network.now (published publisher.old) }
     requires fresh { (D.charted desk.old).spent ≡ None }
     ensures goes { Goes (DoesAsked (context network.now (T.files store.old)) number (line_in network.now text.now) (progress (D.charted desk.old) (published publisher.old) (T.faults store.old) (T.failed_at store.old)) (progress (D.charted desk.new) (published publisher.new) (T.faults store.new) (T.failed_at store.new))) result (past (D.charted desk.old) (published publisher.old)) (past (D.charted desk.new) (published publisher.new)) (D.charted desk.new).spent into.old.items into.new.items }
+    ensures stays { D.site desk.new ≡ D.site desk.old }
     ensures elements { AreOfElements network.now (published publisher.new) }
     ensures list { list_of publisher.new ≡ list_of publisher.old }
     ensures later { T.faults store.old ≤ T.faults store.new }
@@ -210,6 +212,7 @@ pub(crate) fn do_line<T: Store, D: Chart, R: Wait + Drop>(
     requires fresh { (D.charted desk.old).spent ≡ None }
     ensures goes { (line : List ℕ) → IsBegun begun.now.bytes.items begun.now.is_long line → Goes (Does (context network.now (T.files store.old)) number (text_of has_end line) (progress (D.charted desk.old) (published publisher.old) (T.faults store.old) (T.failed_at store.old)) (progress (D.charted desk.new) (published publisher.new) (T.faults store.new) (T.failed_at store.new))) result (past (D.charted desk.old) (published publisher.old)) (past (D.charted desk.new) (published publisher.new)) (D.charted desk.new).spent into.old.items into.new.items }
     ensures ends { EndsAs result (D.charted desk.new).spent }
+    ensures stays { D.site desk.new ≡ D.site desk.old }
     ensures elements { AreOfElements network.now (published publisher.new) }
     ensures list { list_of publisher.new ≡ list_of publisher.old }
     ensures later { T.faults store.old ≤ T.faults store.new }

@@ -29,6 +29,7 @@ fn accept_once<K: Listener, D: Desk>(
     listener: &mut K,
 ) -> u32
     ensures hosted { IsHosted peer holder result (D.desked desk.old) (D.desked desk.new) (heard (K.faults listener.old) (K.quiets listener.old) (K.handed listener.old)) (heard (K.faults listener.new) (K.quiets listener.new) (K.handed listener.new)) }
+    ensures stays { D.site desk.new ≡ D.site desk.old }
     ensures port { K.opened_at listener.new ≡ K.opened_at listener.old }
     ensures heeds { K.heeds listener.new ≡ K.heeds listener.old }
     ensures dials { K.dialled_to listener.new ≡ K.dialled_to listener.old }
@@ -53,6 +54,7 @@ pub fn serve_port<K: Listener, D: Desk>(
     turns: u64,
 ) -> Ran
     ensures serves { ServesPort peer turns result (D.desked desk.old) (D.desked desk.new) (heard (K.faults listener.old) (K.quiets listener.old) (K.handed listener.old)) (heard (K.faults listener.new) (K.quiets listener.new) (K.handed listener.new)) }
+    ensures stays { D.site desk.new ≡ D.site desk.old }
     ensures spent { (t : ℕ) → (result ≡ SpentAt t) ↔ ((D.desked desk.new).spent ≡ Some t) }
     ensures port { K.opened_at listener.new ≡ K.opened_at listener.old }
     ensures heeds { K.heeds listener.new ≡ K.heeds listener.old }

@@ -83,6 +83,7 @@ fn publish_element<D: Chart, R: Wait + Drop>(
     requires elements { AreOfElements network.now (published publisher.old) }
     requires element { is_element network.now at ≡ true }
     ensures publishes { Publishes result at true (past (D.charted desk.old) (published publisher.old)) (past (D.charted desk.new) (published publisher.new)) (D.charted desk.new).spent }
+    ensures stays { D.site desk.new ≡ D.site desk.old }
     ensures elements { AreOfElements network.now (published publisher.new) }
     ensures list { list_of publisher.new ≡ list_of publisher.old }
 {
@@ -106,6 +107,7 @@ pub fn publish<D: Chart, R: Wait + Drop>(
     requires elements { AreOfElements network.now (published publisher.old) }
     requires fresh { (D.charted desk.old).spent ≡ None }
     ensures publishes { Publishes result at (is_element network.now at) (past (D.charted desk.old) (published publisher.old)) (past (D.charted desk.new) (published publisher.new)) (D.charted desk.new).spent }
+    ensures stays { D.site desk.new ≡ D.site desk.old }
     ensures elements { AreOfElements network.now (published publisher.new) }
     ensures list { list_of publisher.new ≡ list_of publisher.old }
 {
@@ -127,6 +129,7 @@ pub(crate) fn publish_loaded<D: Chart, R: Wait + Drop>(
     requires elements { AreOfElements network.now (published publisher.old) }
     requires fresh { (D.charted desk.old).spent ≡ None }
     ensures publishes { Publishes result at (is_accepted && is_element network.now at) (past (D.charted desk.old) (published publisher.old)) (past (D.charted desk.new) (published publisher.new)) (D.charted desk.new).spent }
+    ensures stays { D.site desk.new ≡ D.site desk.old }
     ensures elements { AreOfElements network.now (published publisher.new) }
     ensures list { list_of publisher.new ≡ list_of publisher.old }
 {

@@ -39,6 +39,7 @@ fn hand_on<L: Wire>(link: &mut L, bytes: &Bytes, ended: bool) -> Result<(), Ende
 // Drains, and writes all that this hands out.
 fn drain<L: Wire, D: Desk>(desk: &mut D, peer: u32, holder: u32, link: &mut L) -> Result<(), Ended>
     ensures drains { Drains peer holder result (D.desked desk.old) (D.desked desk.new) (sides (L.reading link.old) (L.writing link.old)) (sides (L.reading link.new) (L.writing link.new)) }
+    ensures stays { D.site desk.new ≡ D.site desk.old }
     ensures reading { L.reading link.new ≡ L.reading link.old }
 {
     match desk.act(Event::Drain(peer, holder)) {
@@ -51,7 +52,8 @@ fn drain<L: Wire, D: Desk>(desk: &mut D, peer: u32, holder: u32, link: &mut L) -
 // Feeds a piece that was read.
 fn feed<D: Desk>(alloc: Global, desk: &mut D, peer: u32, piece: &[u8]) -> Result<(), Ended>
     requires { (D.desked desk.old).spent ≡ None }
-    ensures { IsHanded peer piece.now result (D.desked desk.old) (D.desked desk.new) }
+    ensures handed { IsHanded peer piece.now result (D.desked desk.old) (D.desked desk.new) }
+    ensures stays { D.site desk.new ≡ D.site desk.old }
 {
     let Ok(piece) = piece.to_vec(alloc) else {
         return Err(Ended::NoMemory);
@@ -66,7 +68,8 @@ fn feed<D: Desk>(alloc: Global, desk: &mut D, peer: u32, piece: &[u8]) -> Result
 #[tactic(auto, using(crate::proofs::Turning::none_taken, crate::proofs::Turning::one_taken, crate::proofs::Turning::taken_last, crate::proofs::Turning::taken_until, crate::proofs::Turning::taken_cut, crate::proofs::Turning::all_taken))]
 fn take_all<D: Desk>(desk: &mut D, peer: u32) -> Result<(), Ended>
     requires { (D.desked desk.old).spent ≡ None }
-    ensures { IsTaken peer result (D.desked desk.old) (D.desked desk.new) }
+    ensures taken { IsTaken peer result (D.desked desk.old) (D.desked desk.new) }
+    ensures stays { D.site desk.new ≡ D.site desk.old }
 {
     for _take in 0..TAKES_MAX {
         match desk.take(peer) {
@@ -88,7 +91,8 @@ fn receive<L: Wire, D: Desk>(
 ) -> Result<(), Ended>
     requires unspent { (D.desked desk.old).spent ≡ None }
     requires room { length buffer.old ≡ 65536 }
-    ensures { IsReceived peer result (D.desked desk.old) (D.desked desk.new) (sides (L.reading link.old) (L.writing link.old)) (sides (L.reading link.new) (L.writing link.new)) }
+    ensures received { IsReceived peer result (D.desked desk.old) (D.desked desk.new) (sides (L.reading link.old) (L.writing link.old)) (sides (L.reading link.new) (L.writing link.new)) }
+    ensures stays { D.site desk.new ≡ D.site desk.old }
 {
     match link.read(buffer) {
         Got::Failed => return Err(Ended::ReadFault),
@@ -109,6 +113,7 @@ pub(crate) fn turn<L: Wire, D: Desk>(
     buffer: &mut [u8],
 ) -> Result<(), Ended>
     requires room { length buffer.old ≡ 65536 }
+    ensures stays { D.site desk.new ≡ D.site desk.old }
     ensures turned { IsTurned peer holder result (D.desked desk.old) (D.desked desk.new) (sides (L.reading link.old) (L.writing link.old)) (sides (L.reading link.new) (L.writing link.new)) }
     ensures buffer { length buffer.new ≡ length buffer.old }
 {

@@ -14,7 +14,8 @@ use std::alloc::Global;
 
 // The ready job at the worker's place, and the first where there is none.
 fn find<B: Bench>(bench: &mut B, index: u32) -> Option<(As, u64)>
-    ensures { IsFound index (B.benched bench.old) (B.benched bench.new) result }
+    ensures found { IsFound index (B.benched bench.old) (B.benched bench.new) result }
+    ensures stays { B.site bench.new ≡ B.site bench.old }
 {
     match bench.ready(index as usize) {
         Some(job) => Some(job),
@@ -35,7 +36,8 @@ fn finish<B: Bench>(
     requires given { IsGiven (B.benched bench.old) work.now }
     requires live { IsLive (B.benched bench.old) }
     requires right { AreRight (B.benched bench.old).topologies cache.old }
-    ensures { IsFinished work.now result (B.benched bench.old) (B.benched bench.new) cache.old cache.new }
+    ensures finished { IsFinished work.now result (B.benched bench.old) (B.benched bench.new) cache.old cache.new }
+    ensures stays { B.site bench.new ≡ B.site bench.old }
 {
     let done = solve(alloc, cache, work)?;
     match bench.finish(done) {
@@ -54,7 +56,8 @@ pub(crate) fn turn<B: Bench, G: Gate>(
     index: u32,
 ) -> Result<(), NoMemory>
     requires { AreRight (B.benched bench.old).topologies cache.old }
-    ensures { IsTurned index result (B.benched bench.old) (B.benched bench.new) (G.passed gate.old) (G.passed gate.new) cache.old cache.new }
+    ensures turned { IsTurned index result (B.benched bench.old) (B.benched bench.new) (G.passed gate.old) (G.passed gate.new) cache.old cache.new }
+    ensures stays { B.site bench.new ≡ B.site bench.old }
 {
     let Some((at, number)) = find(bench, index) else {
         return Ok(());

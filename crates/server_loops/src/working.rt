@@ -31,6 +31,7 @@ pub fn work<B: Bench, G: Gate>(
 ) -> Worked
     requires { cache.old.entries ≡ [] }
     ensures runs { Runs index turns result (B.benched bench.old) (B.benched bench.new) (G.passed gate.old) (G.passed gate.new) cache.new }
+    ensures stays { B.site bench.new ≡ B.site bench.old }
     ensures spent { (t : ℕ) → (result ≡ SpentAt t) ↔ ((B.benched bench.new).spent ≡ Some t) }
 {
     for _turn in 0..turns {

@@ -5,3 +5,4 @@ pub mod Turning
 pub mod Charting
 pub mod Benching
 pub mod Crossing
+pub mod Standing

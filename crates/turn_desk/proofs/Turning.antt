@@ -45,7 +45,7 @@ use Rattle.server_loops.specs.Desks.{Answer, Goes, GoesTelling, call_telling}
 use Rattle.server_loops.specs.declared.desks.DeskRefused.{DeskRefused}
 use Rattle.server_loops.specs.declared.desks.DeskRefused.TheVariants.{Plant, Spent}
 use Rattle.server_loops.specs.Benches as bench
-use Rattle.turn_desk.specs.Desks.{IsDone, IsOneTurn, IsTaken, IsTurn, IsTurnBy, IsTurnTelling, Makes, Rests, Stand, bench_call, benched_of, desk_call, desked_of, did_as, did_by, taken_as, told_of}
+use Rattle.turn_desk.specs.Desks.{IsDone, IsOneTurn, IsTaken, IsTurn, IsTurnBy, IsTurnTelling, Makes, Rests, Stand, bench_call, benched_of, desk_call, desked_of, did_as, did_by, site_of, taken_as, told_of}
 use Rattle.turn_desk.specs.Histories.{Begins, known_by}
 use Rattle.turn_desk.proofs.Beginning.{none_is_now}
 use Rattle.turn_desk.proofs.Found.{own_is_seen, picked_from, split_at}
@@ -239,6 +239,23 @@ pub desk_turns : (old new : Stand) (e : Event) (answer : Answer) → IsTurn (Do 
 desk_turns old new e (Ok o) t = one_turn old new (Do e) (IsDone (Ok o)) (Did (Ok o)) (Ok o, refl, refl) t
 desk_turns old new e (Err (Plant why)) t = one_turn old new (Do e) (IsDone (Err (Plant why))) (Did (Err why)) (Err why, refl, refl) t
 desk_turns old new e (Err (Spent number)) r = no_turn old new (Do e) (IsDone (Err (Spent number))) number r
+
+-- ---- where a desk stands
+
+same_site : (old new : Stand) → new.lock ≡ old.lock → new.start ≡ old.start → site_of new ≡ site_of old
+same_site old new lock start = ap (λ (l : TableId). (l, new.start)) lock ∙ ap (λ (h : Option Held). (old.lock, h)) start
+
+pub rests_stay : (old new : Stand) (number : ℕ) → Rests old new number → site_of new ≡ site_of old
+rests_stay old new number r = same_site old new r.lock r.start
+
+-- no turn moves it
+pub turn_stays : (old new : Stand) (act : Act) (r : Result Acted ℕ) → IsTurn act r old new → site_of new ≡ site_of old
+turn_stays old new act (Ok acted) t = same_site old new t.2.lock t.2.start
+turn_stays old new act (Err number) r = rests_stay old new number r
+
+pub telling_stays : (old new : Stand) (act : Act) (r : Result (Acted × Rest) ℕ) → IsTurnTelling act r old new → site_of new ≡ site_of old
+telling_stays old new act (Ok told) t = same_site old new t.3.lock t.3.start
+telling_stays old new act (Err number) r = rests_stay old new number r
 
 -- ---- as a bench
 

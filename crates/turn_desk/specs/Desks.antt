@@ -66,6 +66,10 @@ IsOpened h s = s ≡ opened_by s.lock h
 abbrev pub split_from : Stand → Stand
 split_from s = record s { own = []; spent = None }
 
+-- where it stands: at which lock, and what the network was at the opening of that lock
+abbrev pub site_of : Stand → TableId × Option Held
+site_of s = (s.lock, s.start)
+
 -- ---- what its entries are as calls
 
 -- what a desk answers where the network answered so

@@ -8,6 +8,7 @@ use crate::desk::TurnDesk;
 use crate::workbench::WorkBench;
 use plant_lock::TurnSeat;
 use plant_network::Plant;
+use server_loops::Sited;
 use std::snapshot::Snapshot;
 use std::sync::Wait;
 use std::time::Clock;
@@ -17,6 +18,29 @@ use std::time::Clock;
 pub struct Standing {
     seat: Snapshot<TurnSeat<Plant>>,
     spent_at: Option<u64>,
+}
+
+impl<R: Wait + Clock> Sited for TurnDesk<R> {
+    ghost use Rattle.std.specs.Prelude.{Option};
+    ghost use Rattle.atomic_table.specs.Seated.{TableId};
+    ghost use Rattle.plant_network.specs.Topologies.{Held};
+    ghost use Rattle.turn_desk.specs.Desks.{site_of, stand_of};
+
+    ghost Site = { TableId × Option Held };
+
+    ghost site = { λ d. site_of (stand_of d) };
+}
+
+impl<R: Wait + Clock> Sited for WorkBench<R> {
+    ghost use Rattle.std.specs.Prelude.{Option};
+    ghost use Rattle.atomic_table.specs.Seated.{TableId};
+    ghost use Rattle.plant_network.specs.Topologies.{Held};
+    ghost use Rattle.turn_desk.specs.Desks.{site_of};
+    ghost use Rattle.turn_desk.specs.WorkBenches.{desk_of};
+
+    ghost Site = { TableId × Option Held };
+
+    ghost site = { λ b. site_of (desk_of b) };
 }
 
 impl<R: Wait + Clock> TurnDesk<R> {

@@ -159,6 +159,10 @@ impl Desk for Clerk {
 
     ghost desked = { λ d. record { calls = map (λ n. record { event = n.event; answer = n.answer.value; rest = n.rest }) d.notes.items; spent = d.spent_at } };
 
+    ghost Place = { Unit {0} };
+
+    ghost place = { λ d. tt };
+
     fn act(&mut self, event: Event) -> Result<Outcome, DeskRefused> {
         if let Some(number) = self.spent_at {
             return Err(DeskRefused::Spent(number));

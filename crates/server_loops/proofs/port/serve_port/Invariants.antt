@@ -9,4 +9,5 @@ invariant-loop-turn g l = record {
   port : g.K.Listener.opened_at l.listener ≡ g.K.Listener.opened_at l.initial.listener;
   heeds : g.K.Listener.heeds l.listener ≡ g.K.Listener.heeds l.initial.listener;
   dials : g.K.Listener.dialled_to l.listener ≡ g.K.Listener.dialled_to l.initial.listener;
+  stays : g.D.Sited.site l.desk ≡ g.D.Sited.site l.initial.desk;
 }

@@ -13,6 +13,7 @@ invariant-loop-byte g l = record {
       (progress (g.D.Chart.charted l.desk) (published l.publisher) (g.T.Store.faults l.store) (g.T.Store.failed_at l.store))
       (side (g.K.Sink.written l.initial.out) (g.K.Sink.faults l.initial.out)) (side (g.K.Sink.written l.out) (g.K.Sink.faults l.out));
   fresh : (g.D.Chart.charted l.desk).spent ≡ None;
+  stays : g.D.Sited.site l.desk ≡ g.D.Sited.site l.initial.desk;
   elements : AreOfElements l.network (published l.publisher);
   list : list_of l.publisher ≡ list_of l.initial.publisher;
   files : g.T.Store.files l.store ≡ g.T.Store.files l.initial.store;

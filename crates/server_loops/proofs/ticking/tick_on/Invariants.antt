@@ -7,4 +7,5 @@ abbrev pub invariant-loop-turn : goal.invariant-loop-turn
 invariant-loop-turn g l = record {
   telling : IsTelling l._turn l.told (g.D.Desk.desked l.initial.desk) (g.D.Desk.desked l.desk) (g.C.Clock.last l.initial.clock) (g.C.Clock.last l.clock);
   counted : g.C.Clock.readings l.clock ≡ counted_on l._turn (g.C.Clock.readings l.initial.clock);
+  stays : g.D.Sited.site l.desk ≡ g.D.Sited.site l.initial.desk;
 }
