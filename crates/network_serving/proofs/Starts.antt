@@ -23,6 +23,7 @@ use Rattle.network_serving.specs.declared.served.Served.{Served}
 use Rattle.network_serving.specs.declared.served.Served.TheVariants as served
 use Rattle.network_serving.proofs.Causes.{rose_from}
 use Rattle.network_serving.proofs.Plans.{rose_more}
+use Rattle.network_serving.specs.Runs.{IsAtLock}
 use Rattle.network_serving.proofs.Runs.{is_run}
 
 -- ---- places

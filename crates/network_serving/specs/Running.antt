@@ -20,8 +20,7 @@ use Rattle.network_serving.specs.declared.running.TaskEnd.{TaskEnd}
 use Rattle.network_serving.specs.declared.running.TaskEnd.TheVariants as end
 use Rattle.network_serving.specs.declared.tasks.Task.{Task}
 use Rattle.network_serving.specs.declared.tasks.Task.TheVariants as task
-use Rattle.network_serving.specs.Bases.{Base, base_in}
-use Rattle.network_serving.specs.Bases.{Desk, Operator, Watcher}
+use Rattle.network_serving.specs.Bases.{Base, Desk, Operator, Watcher, base_in}
 use Rattle.network_serving.specs.Runs.{IsAtLock}
 use Rattle.network_serving.specs.Watching.{WatchesPort}
 use Rattle.network_serving.specs.Working.{WorksOn}

@@ -4,7 +4,7 @@ ghost use Rattle.std.specs.Vec.{vec_capacity};
 
 use dom_base::Bytes;
 use server_loops::model::{Event, Outcome, Refused};
-use server_loops::{Desk, DeskRefused, Guide, Rest};
+use server_loops::{Desk, DeskRefused, Guide, Rest, Sited};
 use std::alloc::Global;
 use std::mem::replace;
 use std::snapshot::Snapshot;
@@ -154,14 +154,16 @@ impl Clerk {
     }
 }
 
+impl Sited for Clerk {
+    ghost Site = { Unit {0} };
+
+    ghost site = { λ d. tt };
+}
+
 impl Desk for Clerk {
     ghost use Rattle.std.specs.Prelude.{map};
 
     ghost desked = { λ d. record { calls = map (λ n. record { event = n.event; answer = n.answer.value; rest = n.rest }) d.notes.items; spent = d.spent_at } };
-
-    ghost Place = { Unit {0} };
-
-    ghost place = { λ d. tt };
 
     fn act(&mut self, event: Event) -> Result<Outcome, DeskRefused> {
         if let Some(number) = self.spent_at {
