@@ -1,6 +1,5 @@
 -- The histories of a server's lock are runs.
 use Rattle.std.proofs.Common.{◌≡◌, ◌∙◌, ◌⊎◌, ℕ, List, [], ◌∷◌, ◌++◌, append-nil, map, Option, Some, ap, refl, subst, sym}
-use Rattle.atomic_table.specs.Seated.{TableId}
 use Rattle.dom_edge.specs.Stores.{Files}
 use Rattle.plant_lock.specs.History.{Legal, replay}
 use Rattle.plant_lock.specs.Views.{LegalFrom}
@@ -13,14 +12,14 @@ use Rattle.plant_network.specs.Topologies.{Held, whole}
 use Rattle.plant_network.specs.Turns.{Admits, Allowed, left_by}
 use Rattle.plant_network.proofs.HistoryLemmas.{histories_are_runs}
 use Rattle.plant_text.specs.declared.settings.NetworkParts.{NetworkParts}
-use Rattle.turn_desk.specs.Desks.{Stand}
+use Rattle.turn_desk.specs.Desks.{IsAtLock, Stand}
 use Rattle.desk_laws.specs.Connections.{at_peer, is_at}
 use Rattle.desk_laws.proofs.Closed.{put_is_said_blindly}
 use Rattle.desk_laws.proofs.Streams.{filter_on}
 use Rattle.desk_laws.proofs.Written.{written_was_put}
 use Rattle.network_serving.specs.Bases.{IsReady, Server}
 use Rattle.network_serving.specs.Loaded.{IsLoaded, Load, load_event, load_events}
-use Rattle.network_serving.specs.Runs.{IsAtLock, IsRun}
+use Rattle.network_serving.specs.Runs.{IsRun}
 
 -- loads open, shut and drain nothing
 loads_quiet : (i : ℕ) (ls : List Load) → at_peer i (load_events ls) ≡ []
@@ -35,7 +34,7 @@ module _ (files : Option Files) (n : NetworkParts) (x : Server) (ready : IsReady
   loaded = ready.loaded
 
   starts : s.start ≡ Some held
-  starts = ap (λ (z : TableId × Option Held). z.1) at.site ∙ ap (λ (z : Stand). z.start) ready.opened
+  starts = at.start ∙ ap (λ (z : Stand). z.start) ready.opened
 
   legal : Legal Admits Allowed left_by (whole held) s.seen
   legal = subst (λ (o : Option Held). LegalFrom whole Admits Allowed left_by o s.seen) starts at.legal

@@ -10,7 +10,7 @@ use Rattle.network_files.specs.Settings.{HasNetwork}
 use Rattle.plant_text.specs.declared.settings.NetworkParts.{NetworkParts}
 use Rattle.plant_text.specs.declared.settings.PeerRow.{PeerRow}
 use Rattle.server_loops.specs.Serving.{TellsTime}
-use Rattle.turn_desk.specs.Desks.{Stand, desked_of}
+use Rattle.turn_desk.specs.Desks.{IsAtLock, Stand, desked_of}
 use Rattle.network_serving.specs.declared.duties.Duty.{Duty}
 use Rattle.network_serving.specs.declared.duties.Duty.TheVariants.{Operate}
 use Rattle.network_serving.specs.Duties.{duties_of, first_duties, watch_duties}
@@ -23,7 +23,6 @@ use Rattle.network_serving.specs.declared.served.Served.{Served}
 use Rattle.network_serving.specs.declared.served.Served.TheVariants as served
 use Rattle.network_serving.proofs.Causes.{rose_from}
 use Rattle.network_serving.proofs.Plans.{rose_more}
-use Rattle.network_serving.specs.Runs.{IsAtLock}
 use Rattle.network_serving.proofs.Runs.{is_run}
 
 -- ---- places

@@ -9,10 +9,10 @@ use Rattle.network_serving.specs.Bases.{Base, IsReady, Server, bases_of}
 use Rattle.network_serving.specs.Duties.{duties_of}
 use Rattle.network_serving.specs.Files.{IsLoadEnd}
 use Rattle.network_serving.specs.Ports.{AreApart, ports_of}
-use Rattle.network_serving.specs.Runs.{IsAtLock, IsRun}
+use Rattle.network_serving.specs.Runs.{IsRun}
 use Rattle.server_loops.specs.Serving.{TellsTime}
 use Rattle.plant_network.specs.Histories.{AreGiven}
-use Rattle.turn_desk.specs.Desks.{Stand, desked_of}
+use Rattle.turn_desk.specs.Desks.{IsAtLock, Stand, desked_of}
 use Rattle.network_serving.specs.declared.served.Served.{Served}
 use Rattle.network_serving.specs.declared.served.Served.TheVariants as served
 

@@ -12,7 +12,7 @@ use Rattle.server_loops.specs.declared.working.Worked.TheVariants as worked
 use Rattle.server_loops.specs.Operating.{Operates, context, side, sides, progress}
 use Rattle.server_loops.specs.declared.operating.Operated.{Operated}
 use Rattle.server_loops.specs.declared.operating.Operated.TheVariants as operated
-use Rattle.turn_desk.specs.Desks.{Stand, benched_of, desked_of, stand_of}
+use Rattle.turn_desk.specs.Desks.{IsStill, Stand, benched_of, desked_of, stand_of}
 use Rattle.turn_desk.specs.Works.{works}
 use Rattle.turn_desk.specs.WorkBenches.{bench_of, desk_of}
 use Rattle.turn_desk.specs.Charts.{charted_of}
@@ -21,7 +21,6 @@ use Rattle.network_serving.specs.declared.running.TaskEnd.TheVariants as end
 use Rattle.network_serving.specs.declared.tasks.Task.{Task}
 use Rattle.network_serving.specs.declared.tasks.Task.TheVariants as task
 use Rattle.network_serving.specs.Bases.{Base, Desk, Operator, Watcher, base_in}
-use Rattle.network_serving.specs.Runs.{IsAtLock}
 use Rattle.network_serving.specs.Watching.{WatchesPort}
 use Rattle.network_serving.specs.Working.{WorksOn}
 
@@ -85,8 +84,8 @@ module _ {K F I O R : Type 0} (x : Outside K F I O) (turns : ℕ) where
 
 -- A task stands where it stood: its desk is at the same lock, with the same settings, and what is published is on the same list.
 abbrev pub StaysOn : Base → Base → Type 0
-StaysOn (Desk s) (Desk s') = IsAtLock s s'
-StaysOn (Operator s network shown list) (Operator s' network' shown' list') = IsAtLock s s' × (network' ≡ network) × (list' ≡ list)
+StaysOn (Desk s) (Desk s') = IsStill s s'
+StaysOn (Operator s network shown list) (Operator s' network' shown' list') = IsStill s s' × (network' ≡ network) × (list' ≡ list)
 StaysOn (Watcher known list) (Watcher known' list') = list' ≡ list
 StaysOn old new = ⊥
 

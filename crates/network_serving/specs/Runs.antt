@@ -13,15 +13,10 @@ use Rattle.plant_text.specs.declared.settings.NetworkParts.{NetworkParts}
 use Rattle.server_loops.specs.Desks.{Call}
 use Rattle.server_loops.specs.Sessions.{OverLink}
 use Rattle.server_loops.specs.declared.sessions.Ended.{Ended}
-use Rattle.turn_desk.specs.Desks.{Stand, desked_of, site_of}
+use Rattle.turn_desk.specs.Desks.{Stand, desked_of}
 use Rattle.desk_laws.specs.Closed.{IsSaidBlindly}
 use Rattle.desk_laws.specs.Connections.{IsAlone}
 use Rattle.desk_laws.specs.Written.{IsPutFor, Wrote}
-
--- A desk at the same lock as another: what it has seen is a legal history of that lock.
-pub record IsAtLock (first s : Stand) : Type 0 where
-  pub site : site_of s ≡ site_of first
-  pub legal : LegalFrom whole Admits Allowed left_by s.start s.seen
 
 -- What the desk has seen is a run of the network, behind these older entries. What a session at this desk writes over its link is a
 -- first part of what that run put for the peer, where nobody else opens, shuts or drains its connection. And what it put for a closed peer

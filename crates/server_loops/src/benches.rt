@@ -1,6 +1,7 @@
 //! Where jobs come from and solutions go.
 ghost use Rattle.std.specs.Prelude.{◌≡◌, IfOk, IfSome};
 ghost use Rattle.server_loops.specs.Benches.{Benched, Goes, IsGiven, WasGiven, Ready, Look, Finish};
+ghost use Rattle.server_loops.specs.Sites.{Stays};
 
 use crate::sites::Sited;
 use dom_base::{As, NoMemory};
@@ -22,19 +23,19 @@ pub trait Bench: Sited {
     /// The k-th ready job, by its element and its number.
     fn ready(&mut self, k: usize) -> Option<(As, u64)>
         ensures goes { Goes (benched self.old) (benched self.new) (Ready k result) }
-        ensures stays { Self.site self.new ≡ Self.site self.old };
+        ensures stays { Stays Self.is_at self.old self.new };
 
     /// A job, unless it is no longer ready.
     fn look(&mut self, at: As, number: u64) -> Result<Option<Work>, NoMemory>
         ensures goes { Goes (benched self.old) (benched self.new) (Look at number result) }
         ensures given { IfOk result (λ work. IfSome work (IsGiven (benched self.new))) }
-        ensures stays { Self.site self.new ≡ Self.site self.old };
+        ensures stays { Stays Self.is_at self.old self.new };
 
     /// Hands a solution back. Its job is one that a look gave.
     fn finish(&mut self, done: Done) -> Finished
         requires { WasGiven (benched self.old) done }
         ensures goes { Goes (benched self.old) (benched self.new) (Finish done result) }
-        ensures stays { Self.site self.new ≡ Self.site self.old };
+        ensures stays { Stays Self.is_at self.old self.new };
 
     /// The number at which the bench was spent. From then on it answers that no job is ready.
     fn spent(&self) -> Option<u64>

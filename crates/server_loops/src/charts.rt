@@ -3,6 +3,7 @@ ghost use Rattle.std.specs.Prelude.{◌≡◌};
 ghost use Rattle.std.specs.Arc.{arc_value};
 ghost use Rattle.server_loops.specs.Desks.{IsOwnLoad};
 ghost use Rattle.server_loops.specs.Charts.{Asks, Charted, Goes, current_of};
+ghost use Rattle.server_loops.specs.Sites.{Stays};
 
 use crate::desks::DeskRefused;
 use crate::sites::Sited;
@@ -19,13 +20,13 @@ pub trait Chart: Sited {
     fn act(&mut self, event: Event) -> Result<Outcome, DeskRefused>
         requires { IsOwnLoad event }
         ensures goes { Goes (charted self.old) (charted self.new) event result }
-        ensures stays { Self.site self.new ≡ Self.site self.old };
+        ensures stays { Stays Self.is_at self.old self.new };
 
     /// The current topology of an element, with its number. None where there is no such element, or the chart is spent.
     /// It makes no event.
     fn map(&mut self, at: As) -> Result<Option<(u64, Arc<Topology>)>, NoMemory>
         ensures asks { Asks (charted self.old) (charted self.new) at (current_of arc_value result) }
-        ensures stays { Self.site self.new ≡ Self.site self.old };
+        ensures stays { Stays Self.is_at self.old self.new };
 
     /// The number that the first event or question that was refused as spent gave.
     fn spent(&self) -> Option<u64>

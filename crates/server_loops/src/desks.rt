@@ -1,6 +1,7 @@
 //! Where events go.
 ghost use Rattle.std.specs.Prelude.{◌≡◌};
 ghost use Rattle.server_loops.specs.Desks.{Desked, Goes, IsOwnLoad, Takes};
+ghost use Rattle.server_loops.specs.Sites.{Stays};
 
 use crate::sites::Sited;
 use network_links::Rest;
@@ -22,12 +23,12 @@ pub trait Desk: Sited {
     fn act(&mut self, event: Event) -> Result<Outcome, DeskRefused>
         requires { IsOwnLoad event }
         ensures goes { Goes (desked self.old) (desked self.new) event result }
-        ensures stays { Self.site self.new ≡ Self.site self.old };
+        ensures stays { Stays Self.is_at self.old self.new };
 
     /// Takes the first message of an outside peer's inbox, unless the desk is spent, and tells what is left to do for the peer.
     fn take(&mut self, peer: u32) -> Result<Rest, DeskRefused>
         ensures takes { Takes (desked self.old) (desked self.new) peer result }
-        ensures stays { Self.site self.new ≡ Self.site self.old };
+        ensures stays { Stays Self.is_at self.old self.new };
 
     /// The number that the first event that was refused as spent gave.
     fn spent(&self) -> Option<u64>

@@ -2,6 +2,7 @@
 ghost use Rattle.std.specs.Prelude.{◌≡◌, ◌≤◌, ◌<◌, ◌↔◌, ℕ, length, IfOk, Some, None};
 ghost use Rattle.dom_edge.specs.Heeding.{sides};
 ghost use Rattle.server_loops.specs.Sessions.{Serves};
+ghost use Rattle.server_loops.specs.Sites.{Stays};
 ghost use Rattle.server_loops.specs.Steps.{AreServed, IsEndOfOpen, IsClosedBy, shown};
 ghost use Rattle.server_loops.specs.declared.sessions.Ended.TheVariants.{Spent as SpentAt};
 
@@ -52,7 +53,7 @@ fn serve_turns<L: Wire, D: Desk>(
     requires unspent { (D.desked desk.old).spent ≡ None }
     requires room { length buffer.old ≡ 65536 }
     ensures served { AreServed peer holder turns result (D.desked desk.old) (D.desked desk.new) (sides (L.reading link.old) (L.writing link.old)) (sides (L.reading link.new) (L.writing link.new)) }
-    ensures stays { D.site desk.new ≡ D.site desk.old }
+    ensures stays { Stays D.is_at desk.old desk.new }
 {
     for _turn in 0..turns {
         if let Err(end) = turn(alloc, desk, peer, holder, link, buffer) {
@@ -74,7 +75,7 @@ fn serve_open<L: Wire, D: Desk>(
 ) -> Ended
     requires { (D.desked desk.old).spent ≡ None }
     ensures served { AreServed peer holder turns result (D.desked desk.old) (D.desked desk.new) (sides (L.reading link.old) (L.writing link.old)) (sides (L.reading link.new) (L.writing link.new)) }
-    ensures stays { D.site desk.new ≡ D.site desk.old }
+    ensures stays { Stays D.is_at desk.old desk.new }
 {
     let Ok(mut buffer) = room(alloc) else {
         return Ended::NoMemory;
@@ -106,7 +107,7 @@ fn unopened(why: DeskRefused) -> Ended
 fn shut<D: Desk>(desk: &mut D, peer: u32, end: Ended) -> Ended
     requires { (D.desked desk.old).spent ≡ shown end }
     ensures closed { IsClosedBy peer end result (D.desked desk.old) (D.desked desk.new) }
-    ensures stays { D.site desk.new ≡ D.site desk.old }
+    ensures stays { Stays D.is_at desk.old desk.new }
 {
     match end {
         Ended::Lost(_) | Ended::Spent(_) => end,
@@ -135,7 +136,7 @@ pub fn serve_session<L: Wire, D: Desk>(
     turns: u64,
 ) -> Ended
     ensures serves { Serves peer holder turns result (D.desked desk.old) (D.desked desk.new) (sides (L.reading link.old) (L.writing link.old)) (sides (L.reading link.new) (L.writing link.new)) }
-    ensures stays { D.site desk.new ≡ D.site desk.old }
+    ensures stays { Stays D.is_at desk.old desk.new }
     ensures spent { (t : ℕ) → (result ≡ SpentAt t) ↔ ((D.desked desk.new).spent ≡ Some t) }
 {
     if let Err(why) = desk.act(Event::Open(peer, holder)) {

@@ -4,5 +4,5 @@
 pub trait Sited {
     ghost Site: { Type 0 };
 
-    ghost site: { Self → Self.Site };
+    ghost is_at: { Self → Self.Site → Type 0 };
 }

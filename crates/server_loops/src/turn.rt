@@ -1,6 +1,7 @@
 //! One turn of a session.
 ghost use Rattle.std.specs.Prelude.{◌≡◌, length, None};
 ghost use Rattle.dom_edge.specs.Heeding.{sides};
+ghost use Rattle.server_loops.specs.Sites.{Stays};
 ghost use Rattle.server_loops.specs.Steps.{IsEndOf, IsHandedOn, Drains, IsHanded, IsTaken, IsReceived, IsTurned};
 
 use crate::desks::{Desk, DeskRefused};
@@ -39,7 +40,7 @@ fn hand_on<L: Wire>(link: &mut L, bytes: &Bytes, ended: bool) -> Result<(), Ende
 // Drains, and writes all that this hands out.
 fn drain<L: Wire, D: Desk>(desk: &mut D, peer: u32, holder: u32, link: &mut L) -> Result<(), Ended>
     ensures drains { Drains peer holder result (D.desked desk.old) (D.desked desk.new) (sides (L.reading link.old) (L.writing link.old)) (sides (L.reading link.new) (L.writing link.new)) }
-    ensures stays { D.site desk.new ≡ D.site desk.old }
+    ensures stays { Stays D.is_at desk.old desk.new }
     ensures reading { L.reading link.new ≡ L.reading link.old }
 {
     match desk.act(Event::Drain(peer, holder)) {
@@ -53,7 +54,7 @@ fn drain<L: Wire, D: Desk>(desk: &mut D, peer: u32, holder: u32, link: &mut L) -
 fn feed<D: Desk>(alloc: Global, desk: &mut D, peer: u32, piece: &[u8]) -> Result<(), Ended>
     requires { (D.desked desk.old).spent ≡ None }
     ensures handed { IsHanded peer piece.now result (D.desked desk.old) (D.desked desk.new) }
-    ensures stays { D.site desk.new ≡ D.site desk.old }
+    ensures stays { Stays D.is_at desk.old desk.new }
 {
     let Ok(piece) = piece.to_vec(alloc) else {
         return Err(Ended::NoMemory);
@@ -69,7 +70,7 @@ fn feed<D: Desk>(alloc: Global, desk: &mut D, peer: u32, piece: &[u8]) -> Result
 fn take_all<D: Desk>(desk: &mut D, peer: u32) -> Result<(), Ended>
     requires { (D.desked desk.old).spent ≡ None }
     ensures taken { IsTaken peer result (D.desked desk.old) (D.desked desk.new) }
-    ensures stays { D.site desk.new ≡ D.site desk.old }
+    ensures stays { Stays D.is_at desk.old desk.new }
 {
     for _take in 0..TAKES_MAX {
         match desk.take(peer) {
@@ -92,7 +93,7 @@ fn receive<L: Wire, D: Desk>(
     requires unspent { (D.desked desk.old).spent ≡ None }
     requires room { length buffer.old ≡ 65536 }
     ensures received { IsReceived peer result (D.desked desk.old) (D.desked desk.new) (sides (L.reading link.old) (L.writing link.old)) (sides (L.reading link.new) (L.writing link.new)) }
-    ensures stays { D.site desk.new ≡ D.site desk.old }
+    ensures stays { Stays D.is_at desk.old desk.new }
 {
     match link.read(buffer) {
         Got::Failed => return Err(Ended::ReadFault),
@@ -113,7 +114,7 @@ pub(crate) fn turn<L: Wire, D: Desk>(
     buffer: &mut [u8],
 ) -> Result<(), Ended>
     requires room { length buffer.old ≡ 65536 }
-    ensures stays { D.site desk.new ≡ D.site desk.old }
+    ensures stays { Stays D.is_at desk.old desk.new }
     ensures turned { IsTurned peer holder result (D.desked desk.old) (D.desked desk.new) (sides (L.reading link.old) (L.writing link.old)) (sides (L.reading link.new) (L.writing link.new)) }
     ensures buffer { length buffer.new ≡ length buffer.old }
 {

@@ -2,6 +2,7 @@
 ghost use Rattle.std.specs.Prelude.{◌≡◌, ℕ, Contains, Some, Ok};
 ghost use Rattle.dom_base.specs.declared.names.As.{As};
 ghost use Rattle.server_loops.specs.Benches.{Look, IsGiven};
+ghost use Rattle.server_loops.specs.Sites.{Stays};
 ghost use Rattle.server_loops.specs.WorkerSteps.{AreRight, IsLive, IsFound, IsFinished, IsTurned};
 
 use crate::benches::{Bench, Finished};
@@ -15,7 +16,7 @@ use std::alloc::Global;
 // The ready job at the worker's place, and the first where there is none.
 fn find<B: Bench>(bench: &mut B, index: u32) -> Option<(As, u64)>
     ensures found { IsFound index (B.benched bench.old) (B.benched bench.new) result }
-    ensures stays { B.site bench.new ≡ B.site bench.old }
+    ensures stays { Stays B.is_at bench.old bench.new }
 {
     match bench.ready(index as usize) {
         Some(job) => Some(job),
@@ -37,7 +38,7 @@ fn finish<B: Bench>(
     requires live { IsLive (B.benched bench.old) }
     requires right { AreRight (B.benched bench.old).topologies cache.old }
     ensures finished { IsFinished work.now result (B.benched bench.old) (B.benched bench.new) cache.old cache.new }
-    ensures stays { B.site bench.new ≡ B.site bench.old }
+    ensures stays { Stays B.is_at bench.old bench.new }
 {
     let done = solve(alloc, cache, work)?;
     match bench.finish(done) {
@@ -57,7 +58,7 @@ pub(crate) fn turn<B: Bench, G: Gate>(
 ) -> Result<(), NoMemory>
     requires { AreRight (B.benched bench.old).topologies cache.old }
     ensures turned { IsTurned index result (B.benched bench.old) (B.benched bench.new) (G.passed gate.old) (G.passed gate.new) cache.old cache.new }
-    ensures stays { B.site bench.new ≡ B.site bench.old }
+    ensures stays { Stays B.is_at bench.old bench.new }
 {
     let Some((at, number)) = find(bench, index) else {
         return Ok(());

@@ -5,4 +5,3 @@ pub mod Turning
 pub mod Charting
 pub mod Benching
 pub mod Crossing
-pub mod Standing

@@ -1,6 +1,6 @@
 //! A desk: a seat at the lock of a network.
 ghost use Rattle.std.specs.Arc.{arc_value};
-ghost use Rattle.plant_lock.specs.Seats.{IsAt, IsLegal, seen_by, view_of};
+ghost use Rattle.plant_lock.specs.Seats.{IsAt, view_of};
 ghost use Rattle.turn_desk.specs.Histories.{Begins};
 
 use crate::bells::Bells;
@@ -24,7 +24,6 @@ pub struct TurnDesk<R: Wait + Clock> {
     pub(crate) own: Option<u32>,
     ghost here: { IsAt (arc_value lock) seat },
     ghost begun: { Begins (view_of seat).start },
-    ghost legal: { IsLegal seat (seen_by seat) },
 }
 
 // Written, so that it is proved in this crate alone.

@@ -21,26 +21,20 @@ pub struct Standing {
 }
 
 impl<R: Wait + Clock> Sited for TurnDesk<R> {
-    ghost use Rattle.std.specs.Prelude.{Option};
-    ghost use Rattle.atomic_table.specs.Seated.{TableId};
-    ghost use Rattle.plant_network.specs.Topologies.{Held};
-    ghost use Rattle.turn_desk.specs.Desks.{site_of, stand_of};
+    ghost use Rattle.turn_desk.specs.Desks.{IsAtLock, Stand, stand_of};
 
-    ghost Site = { TableId × Option Held };
+    ghost Site = { Stand };
 
-    ghost site = { λ d. site_of (stand_of d) };
+    ghost is_at = { λ d first. IsAtLock first (stand_of d) };
 }
 
 impl<R: Wait + Clock> Sited for WorkBench<R> {
-    ghost use Rattle.std.specs.Prelude.{Option};
-    ghost use Rattle.atomic_table.specs.Seated.{TableId};
-    ghost use Rattle.plant_network.specs.Topologies.{Held};
-    ghost use Rattle.turn_desk.specs.Desks.{site_of};
+    ghost use Rattle.turn_desk.specs.Desks.{IsAtLock, Stand};
     ghost use Rattle.turn_desk.specs.WorkBenches.{desk_of};
 
-    ghost Site = { TableId × Option Held };
+    ghost Site = { Stand };
 
-    ghost site = { λ b. site_of (desk_of b) };
+    ghost is_at = { λ b first. IsAtLock first (desk_of b) };
 }
 
 impl<R: Wait + Clock> TurnDesk<R> {

@@ -1,7 +1,7 @@
 //! Desks at one lock, and their turns.
 ghost use Rattle.std.specs.Prelude.{◌≡◌, ◌-◌, ◌<◌, IfErr, IfOk, OnErr, OnOk, None, Some};
 ghost use Rattle.std.specs.Arc.{arc_value};
-ghost use Rattle.plant_lock.specs.Seats.{IsAt, IsLegal, MayDo, seen_by, shares_of, view_of};
+ghost use Rattle.plant_lock.specs.Seats.{IsAt, MayDo, shares_of, view_of};
 ghost use Rattle.plant_lock.specs.declared.turnstile.SplitError.TheVariants.{NoSeat};
 ghost use Rattle.turn_desk.specs.Desks.{IsOpened, IsTurn, IsTurnTelling, shares_at, split_from, stand_at, stand_of};
 ghost use Rattle.turn_desk.specs.Histories.{Begins, NoneIsPending};
@@ -33,7 +33,6 @@ impl<R: Wait + Clock> TurnDesk<R> {
     pub fn new(rt: R, lock: Arc<Turnstile<Plant>, Global>, seat: TurnSeat<Plant>) -> Self
         requires here { IsAt (arc_value lock) seat }
         requires begun { Begins (view_of seat).start }
-        requires legal { IsLegal seat (seen_by seat) }
         ensures stand { stand_of result ≡ stand_at seat None }
         ensures shares { shares_at result ≡ shares_of seat }
     {

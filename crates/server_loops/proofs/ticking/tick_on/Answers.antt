@@ -15,6 +15,6 @@ loop-turn-preserved g c =
     record {
       telling = subst (λ n. IsTelling (c.loop-turn._turn + 1) c.tell-told.result old new last n) (sym c.now-now.ensures.reading)
           (one_told c.loop-turn._turn c.loop-turn.told old mid new last now c.loop-turn.invariant.telling reading c.now-now.ensures.never_falls c.tell-told.result c.tell-told.ensures.told);
-      stays = c.tell-told.ensures.stays ∙ c.loop-turn.invariant.stays;
+      stays = λ site is. c.tell-told.ensures.stays site (c.loop-turn.invariant.stays site is);
       counted = c.now-now.ensures.counted ∙ ap next_count c.loop-turn.invariant.counted ∙ sym (counted_more c.loop-turn._turn (g.C.Clock.readings c.args.clock.now));
     }

@@ -70,8 +70,8 @@ returns-clause-received g c =
     ]
 
 pub returns-clause-stays : goal.returns-clause-stays
-returns-clause-stays g c =
+returns-clause-stays g c = λ site is.
     elim c.match-read.branch [
-      | in-Quiet b ↦ c.take_all.ensures.stays ∙ ap g.D.Sited.site b.desk-is
-      | in-Bytes+in_ok-feed-in-Bytes b ↦ c.take_all.ensures.stays ∙ ap g.D.Sited.site b.desk-is ∙ b.feed.ensures.stays
+      | in-Quiet b ↦ c.take_all.ensures.stays site (subst (λ d. g.D.Sited.is_at d site) (sym b.desk-is) is)
+      | in-Bytes+in_ok-feed-in-Bytes b ↦ c.take_all.ensures.stays site (subst (λ d. g.D.Sited.is_at d site) (sym b.desk-is) (b.feed.ensures.stays site is))
     ]

@@ -1,4 +1,4 @@
-use Rattle.std.proofs.Common.{◌≡◌, ◌∙◌, Ok, Err, None, refl, sym}
+use Rattle.std.proofs.Common.{◌≡◌, ◌∙◌, Ok, Err, None, sym}
 use Rattle.server_loops.specs.WorkerSteps.{IsTurned}
 use Rattle.server_loops.proofs.Running.{set_out, one_more, broken}
 use Rattle.server_loops.proofs.working.work.Goals as goal
@@ -28,8 +28,8 @@ loop-turn-preserved g c =
     let t : IsTurned c.args.index (Ok tt) mid new passed_mid passed_after c.loop-turn.cache c.turn.new.cache = rw c.in_default-turn.is at c.turn.ensures.turned in
     record {
       running = one_more c.args.index c.loop-turn._turn old mid new passed passed_mid passed_after c.loop-turn.cache c.turn.new.cache c.loop-turn.invariant.running live t;
-      stays = c.turn.ensures.stays ∙ c.loop-turn.invariant.stays;
+      stays = λ site is. c.turn.ensures.stays site (c.loop-turn.invariant.stays site is);
     }
 
 pub loop-turn-init : goal.loop-turn-init
-loop-turn-init g c = record { running = set_out c.args.index (g.B.Bench.benched c.args.bench.now) (g.G.Gate.passed c.args.gate.now) c.args.cache.now c.requires; stays = refl }
+loop-turn-init g c = record { running = set_out c.args.index (g.B.Bench.benched c.args.bench.now) (g.G.Gate.passed c.args.gate.now) c.args.cache.now c.requires; stays = λ site is. is }
