@@ -48,7 +48,8 @@ pub record IsPortEnd (w : World) (name : List ℕ) (port : ℕ) : Type 0 where
   pub at_port : w.failed_port ≡ port
 
 -- Exactly the duties of the network were started, in their order, all at one lock, which had just been opened round the network with its
--- topologies, and whose histories are runs of it behind those loads, where what is given with each event is what its type says; and the clock was read in each turn, and the desk that is handed back is at that lock and told each reading that rose.
+-- topologies. The histories of that lock are runs of the network behind those loads, where what is given with each event is what its type
+-- says. The clock was read in each turn; the desk that is handed back is at that lock, and told each reading that rose.
 pub record IsServed (w : World) (name : List ℕ) (turns : ℕ) : Type 0 where
   pub network : NetworkParts
   pub has : HasNetwork w.files name network

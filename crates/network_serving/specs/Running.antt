@@ -89,7 +89,8 @@ StaysOn (Operator s network shown list) (Operator s' network' shown' list') = Is
 StaysOn (Watcher known list) (Watcher known' list') = list' ≡ list
 StaysOn old new = ⊥
 
--- The first of these tasks became the second in a run of all turns that a number of 64 bits counts, and stands where it stood. So what the
--- desk of a server's task has seen when it ends is a history of the server's lock, of which `IsServed.runs` speaks.
+-- The first of these tasks became the second in a run of all turns that a number of 64 bits counts, and stands where it stood. So where
+-- the first one's desk was the server's, which is at its own lock, what the second one's has seen is a history of that lock (`IsAtLock`), of
+-- which `IsServed.runs` speaks.
 abbrev pub WasRun : {K F I O R : Type 0} → Outside K F I O → Task K F I O R → Task K F I O R → Type 0
 WasRun x old new = (end : TaskEnd) × RunsTask x (2 ^ 64 - 1) end old new × StaysOn (base_in old) (base_in new)
