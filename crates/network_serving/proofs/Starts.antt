@@ -10,7 +10,7 @@ use Rattle.network_files.specs.Settings.{HasNetwork}
 use Rattle.plant_text.specs.declared.settings.NetworkParts.{NetworkParts}
 use Rattle.plant_text.specs.declared.settings.PeerRow.{PeerRow}
 use Rattle.server_loops.specs.Serving.{TellsTime}
-use Rattle.turn_desk.specs.Desks.{Stand, desked_of}
+use Rattle.turn_desk.specs.Desks.{IsAtLock, Stand, desked_of}
 use Rattle.network_serving.specs.declared.duties.Duty.{Duty}
 use Rattle.network_serving.specs.declared.duties.Duty.TheVariants.{Operate}
 use Rattle.network_serving.specs.Duties.{duties_of, first_duties, watch_duties}
@@ -163,8 +163,8 @@ module _ (w : World) (name : List ℕ) (turns : ℕ) where
     | inr network ↦ elim network.ends [ inl port' ↦ absurd port' | inr topology ↦ absurd (no_other_end w.files topology.row.own topology.row.topology w.store_faults w.failed_at served.NoThread (λ e. let no : ⊥ = cc in no) (λ n e. e) topology.ends) ]
   ]
 
-  pub all_served : (n : NetworkParts) (x : Server) → HasNetwork w.files name n → AreApart n → IsReady w.files n x → w.started.1 ≡ w.started.0 ++ duties_of n → w.bases.1 ≡ w.bases.0 ++ bases_of n x → RoseBy turns w.readings → (s : Stand) → w.told ≡ Some s → TellsTime turns (desked_of x.desk) (desked_of s) w.last.0 w.last.1 → IsServed w name turns
-  all_served n x has apart ready duties behind read s by tells = record { network = n; has = has; apart = apart; duties = duties; server = x; ready = ready; runs = λ s at. is_run w.files n x ready s at; behind = behind; read = read; told = s; by = by; tells = tells }
+  pub all_served : (n : NetworkParts) (x : Server) → HasNetwork w.files name n → AreApart n → IsReady w.files n x → w.started.1 ≡ w.started.0 ++ duties_of n → w.bases.1 ≡ w.bases.0 ++ bases_of n x → RoseBy turns w.readings → (s : Stand) → w.told ≡ Some s → IsAtLock x.desk s → TellsTime turns (desked_of x.desk) (desked_of s) w.last.0 w.last.1 → IsServed w name turns
+  all_served n x has apart ready duties behind read s by at tells = record { network = n; has = has; apart = apart; duties = duties; server = x; ready = ready; runs = λ s at given. is_run w.files n x ready s at given; behind = behind; read = read; told = s; by = by; at = at; tells = tells }
 
   pub start_ends : (n : NetworkParts) (s : Served) → HasNetwork w.files name n → IsStartEnd (ports_of n) (called w.port_calls w.port_faults w.failed_port) w.spawner_faults s → Ends w name turns s
   start_ends n (served.NoPort port) has is = record { network = n; has = has; place = is.place; at_place = is.at_place; called = is.calls; failed = is.failed; at_port = is.at_port }
