@@ -1,6 +1,6 @@
 -- Pairs are in the order of the labels that they are short for.
 use Rattle.std.proofs.Common.{◌≡◌, inl, inr, ℕ, ◌+◌, ◌<◌, ◌≤◌, List, length, replicate, arith, refl, sym, ◌∙◌, ap, subst, None, Some}
-use Rattle.std.specs.Prelude.{SomeIff, slice_get, slice_index_or, slice_set, ◌↔◌}
+use Rattle.std.specs.Prelude.{SomeIff, MatchBool, is_some, slice_get, slice_index_or, slice_set}
 use Rattle.std.specs.declared.option.Option.{Option}
 use Rattle.std.proofs.Math.ListN.{length-set}
 use Rattle.std.proofs.lemmas.Bool.{cases_lt, lt-ltb, le-ltb}
@@ -21,7 +21,7 @@ use Rattle.path_search.specs.Arcs.{label_at, joined, IsBelow, IsRelaxed, Lowers}
 use Rattle.path_search.specs.Front.{cost_of}
 use Rattle.path_search.specs.Short.{long_of, label_if, label_by, labels_by, put_before, IsLess, IsShort, DoRise, AreShort, no_label}
 use Rattle.path_search.specs.Starts.{Offers}
-use Rattle.path_search.proofs.Relaxing.{IsWritten, written, below_most, same_le}
+use Rattle.path_search.proofs.Relaxing.{IsWritten, written, below_most, low_not_relaxed, same_le}
 
 pub label_small : (exits : List Addr) (s : Short) → s.cost < NOTHING → label_by exits s ≡ Some (long_of exits s)
 label_small exits s small = ap (λ b. label_if b exits s) (lt-ltb s.cost NOTHING small)
@@ -149,6 +149,15 @@ relaxed_short exits rows cap a t h are at_tail at_head bound never rest is withi
     not_below (long_of exits found) (label_by exits t) (λ below. never (fits, below_less exits found t are.rise inside small below)) in
     subst (λ (r : Label). AtMost (label_at (labels_by exits rows) a.tail) (joined a r)) has.1
     (subst (λ (o : Option Label). AtMost o (long_of exits found)) (sym (at_row exits rows a.tail t at_tail)) most)
+
+-- what is told of the lowered label tells whether the arc is relaxed
+pub told_lowers : (exits : List Addr) (rows : List Short) (cap : ℕ) (a : Arc) (t h : Short) (found : Option Short) → AreShort exits rows → slice_get rows a.tail ≡ Some t → slice_get rows a.head ≡ Some h →
+    cap ≤ COST_MAX → SomeIff found ((a.weight + h.cost ≤ cap) × IsLess (put_before a.weight h) t) (put_before a.weight h) →
+    MatchBool (is_some found) (¬ IsRelaxed cap (labels_by exits rows) a) (IsRelaxed cap (labels_by exits rows) a)
+told_lowers exits rows cap a t h None are at_tail at_head bound never = relaxed_short exits rows cap a t h are at_tail at_head bound never
+told_lowers exits rows cap a t h (Some s) are at_tail at_head bound told =
+    low_not_relaxed cap (labels_by exits rows) (labels_by exits (slice_set rows a.tail (put_before a.weight h))) a
+    (lowered_short exits rows cap a t h are at_tail at_head bound told.0.0 told.0.1)
 
 -- a row that is short for a label is written
 pub held_set : (exits : List Addr) (rows : List Short) (i : ℕ) (s : Short) → AreShort exits rows → s.cost ≤ COST_MAX → s.exit < length exits → AreShort exits (slice_set rows i s)
