@@ -102,7 +102,7 @@ returns-clause-behind g c =
     bases_on n x old all later last (c.in_ok-start_all.ensures.behind ∙ ap (λ (bs : List Base). old ++ bs) first)
     (c.in_ok-start.ensures.behind ∙ ap (λ (s : Stand). all ++ Operator s n x.shown x.list ∷ []) stands)
     (c.in_ok-start_all-2.ensures.behind
-        ∙ ap (λ (bs : List Base). later ++ bs) c.in_ok-watches.ensures.ok.bases_are
-        ∙ ap (λ (w : Option ℕ). later ++ watch_bases (carried c.tell-told.result) (list_told c.tell-told.result) w) is
-        ∙ ap (λ (known : List Shown). later ++ watch_bases known (list_told c.tell-told.result) n.watch) c.tell-told.ensures.carried
-        ∙ ap (λ (l : Book). later ++ watch_bases x.shown l n.watch) c.tell-told.ensures.list)
+    ∙ ap (λ (bs : List Base). later ++ bs) c.in_ok-watches.ensures.ok.bases_are
+    ∙ ap (λ (w : Option ℕ). later ++ watch_bases (carried c.tell-told.result) (list_told c.tell-told.result) w) is
+    ∙ ap (λ (known : List Shown). later ++ watch_bases known (list_told c.tell-told.result) n.watch) c.tell-told.ensures.carried
+    ∙ ap (λ (l : Book). later ++ watch_bases x.shown l n.watch) c.tell-told.ensures.list)
