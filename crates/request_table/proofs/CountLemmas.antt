@@ -12,7 +12,7 @@ use Rattle.request_table.specs.Counts.{count_in}
 use Rattle.request_table.specs.Lends.{with_item}
 use Rattle.request_table.specs.Rows.{AreBelow}
 use Rattle.request_table.proofs.KeyLemmas.{same_peer_is, same_peer_self}
-use Rattle.request_table.proofs.PendingLemmas.{NumbersRise-last, Updates}
+use Rattle.request_table.proofs.PendingLemmas.{NumbersRise-last}
 
 -- ---- the rows of a peer
 

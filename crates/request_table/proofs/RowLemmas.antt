@@ -1,5 +1,5 @@
 -- Rows that are read, added, written and taken out, by the places of their numbers.
-use Rattle.std.proofs.Common.{◌≡◌, ◌≢◌, ◌∙◌, ◌∷◌, ◌++◌, ◌<◌, ◌≤◌, ◌+◌, ◌-◌, [], ℕ, zero, suc, min, cond, List, Option, Some, None, Bool, true, false, is_some, length, nat_eq, get_or, slice_get, arith, inl, inr, refl, sym, ap, subst}
+use Rattle.std.proofs.Common.{◌≡◌, ◌≢◌, ◌∙◌, ◌∷◌, ◌++◌, ◌<◌, ◌≤◌, ◌-◌, [], ℕ, zero, suc, min, cond, List, Option, Some, None, true, false, is_some, length, nat_eq, get_or, slice_get, arith, refl, sym, ap, subst}
 use Rattle.std.specs.Prelude.{IsSome, remove, slice_index_or}
 use Rattle.std.specs.Map.{lookup, remove_entry, set_value}
 use Rattle.std.proofs.lemmas.Bool.{ne_eqb, eq-eqb}

@@ -1,6 +1,6 @@
 -- The place that a search finds among numbers that rise.
 use Rattle.std.proofs.Common.{◌≡◌, ◌∙◌, ◌<◌, ◌≤◌, ℕ, List, Result, Ok, Err, MatchResult, length, get_or, inl, inr, sym, ap, arith}
-use Rattle.std.specs.Prelude.{AllPairs, slice_get}
+use Rattle.std.specs.Prelude.{AllPairs}
 use Rattle.std.specs.List.Sorted.{IsSearchInRange, IsBinarySearchResult, IsNonDecreasingBy}
 use Rattle.std.specs.Ordering.{nat_cmp, ordering_index}
 use Rattle.std.proofs.lemmas.Cmp.{ranked}

@@ -1,4 +1,3 @@
-use Rattle.std.proofs.Common.{◌∙◌, ap}
 use Rattle.request_table.proofs.CountLemmas.{added_count}
 use Rattle.request_table.proofs.counts.Counts.add.Goals as goal
 

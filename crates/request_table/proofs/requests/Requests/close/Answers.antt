@@ -1,4 +1,4 @@
-use Rattle.std.proofs.Common.{◌≡◌, ◌∙◌, sym, arith}
+use Rattle.std.proofs.Common.{◌∙◌, sym, arith}
 use Rattle.request_table.proofs.PendingLemmas.{closed_pending, closed_holds}
 use Rattle.request_table.proofs.CountLemmas.{closed_count, none_removed, some_asked}
 use Rattle.request_table.proofs.requests.Requests.close.Goals as goal

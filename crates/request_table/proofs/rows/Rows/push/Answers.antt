@@ -1,7 +1,6 @@
-use Rattle.std.proofs.Common.{◌≡◌, ℕ, is_some, ap, sym, subst}
+use Rattle.std.proofs.Common.{is_some, ap}
 use Rattle.slab.specs.Slab.{get}
 use Rattle.request_table.specs.declared.rows.Place.{Place}
-use Rattle.request_table.specs.Rows.{AreBelow}
 use Rattle.request_table.proofs.RowLemmas.{fresh_apart, pushed_places, pushed_rows}
 use Rattle.request_table.proofs.rows.Rows.push.Goals as goal
 
