@@ -5,7 +5,7 @@ mod Runs
 mod Opening
 mod Repeats
 mod Starts
-mod Watches
+mod WatchTasks
 pub mod WatchTurns
 pub mod Workings
 pub mod CrossingParts

@@ -19,7 +19,7 @@ use std::time::Clock;
 use ted_watch::{Told, Watcher};
 
 // The last of these watchers, which knows what was told from now on.
-#[tactic(auto, using(crate::proofs::Loads::learnt_all, Rattle::std::proofs::lemmas::List::Elements::All-pop))]
+#[tactic(auto, using(crate::proofs::Loads::learnt_all, crate::proofs::WatchTasks::last_unused))]
 fn informed(watchers: &mut Vec<Watcher>, told: &Told) -> Watcher
     requires unused { All (IsUnused (list_told told.now)) watchers.old.items }
     requires some { 0 < length watchers.old.items }
@@ -40,7 +40,7 @@ fn informed(watchers: &mut Vec<Watcher>, told: &Told) -> Watcher
 
 /// Listens at the port of watchers, where the settings have one, once for each who answers them. Each of these tasks has a watcher
 /// that knows what was told.
-#[tactic(auto, using(crate::proofs::Watches::no_watches, crate::proofs::Starts::want_plan))]
+#[tactic(auto, using(crate::proofs::WatchTasks::no_watches, crate::proofs::Starts::want_plan))]
 pub(crate) fn plan_watches<Q: Ports, F: Drop, I: Drop, O: Drop, R: Wait + Clock + Copy + Drop>(
     rt: R,
     alloc: Global,

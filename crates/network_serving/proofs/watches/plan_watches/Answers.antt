@@ -7,7 +7,7 @@ use Rattle.network_serving.specs.declared.duties.Duty.TheVariants.{Watch}
 use Rattle.network_serving.specs.declared.duties.TheConstants.{WATCHERS}
 use Rattle.network_serving.proofs.Plans.{rose_more}
 use Rattle.network_serving.proofs.Starts.{plan_end}
-use Rattle.network_serving.proofs.Watches.{port_in, watch_added}
+use Rattle.network_serving.proofs.WatchTasks.{port_in, watch_added}
 use Rattle.network_serving.proofs.watches.plan_watches.Goals as goal
 
 pub returns-in_err-listener-clause-err : goal.returns-in_err-listener-clause-err

@@ -1,15 +1,16 @@
 -- The tasks that answer watchers are planned one after the other.
 use Rattle.std.proofs.Common.{◌≡◌, ◌∙◌, ◌+◌, ◌<◌, ℕ, zero, suc, List, [], ◌∷◌, ◌++◌, length, map, All, ap, refl, sym, subst, arith, Option, Some}
-use Rattle.std.specs.Prelude.{replicate, slice_get}
+use Rattle.std.specs.Prelude.{IfSome, option_to_list, replicate, slice_get}
 use Rattle.std.proofs.lemmas.List.{map-append}
-use Rattle.std.proofs.lemmas.List.Elements.{All-nil, All-push}
+use Rattle.std.proofs.lemmas.List.Elements.{All-nil, All-pop, All-push}
 use Rattle.dom_base.specs.declared.addr.Addr.{Addr}
 use Rattle.logbook.specs.Pages.{Book}
 use Rattle.ted_watch.specs.declared.shown.Shown.{Shown}
+use Rattle.ted_watch.specs.declared.watch.Watcher as watch
 use Rattle.network_serving.specs.Bases.{Base, Watcher, base_in}
 use Rattle.network_serving.specs.Duties.{watches_at}
 use Rattle.network_serving.specs.Tasks.{IsNew, duty_of}
-use Rattle.network_serving.specs.Watches.{AreWatches}
+use Rattle.network_serving.specs.Watches.{AreWatches, IsUnused}
 use Rattle.network_serving.specs.declared.duties.Duty.{Duty}
 use Rattle.network_serving.specs.declared.duties.Duty.TheVariants.{Watch}
 use Rattle.network_serving.specs.declared.tasks.Task.{Task}
@@ -57,3 +58,9 @@ module _ {K F I O R : Type 0} (opened_at : K → ℕ) (heeds dialled_to : K → 
             ∙ sym (map-append watcher duties (Watch port k ∷ []));
         are_new = subst (All (IsNew heeds dialled_to)) (sym is) (All-push (IsNew heeds dialled_to) tasks task before.are_new is_new);
       })
+
+-- ---- watchers
+
+-- one is taken
+pub last_unused : (list : Book) (old new : List watch.Watcher) (taken : Option watch.Watcher) → old ≡ new ++ option_to_list taken → All (IsUnused list) old → All (IsUnused list) new × IfSome taken (IsUnused list)
+last_unused list old new taken is all = All-pop (IsUnused list) old new taken is all
