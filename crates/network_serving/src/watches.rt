@@ -1,7 +1,7 @@
 //! The tasks that answer watchers.
-ghost use Rattle.std.specs.Prelude.{◌≡◌, ◌+◌, ◌≤◌, ◌<◌, [], All, IfErr, IfOk, length};
+ghost use Rattle.std.specs.Prelude.{◌≡◌, ◌+◌, ◌≤◌, ◌<◌, [], All, IfErr, IfOk, length, replicate};
 ghost use Rattle.ted_watch.specs.Watch.{carried, known, list_at, list_told};
-ghost use Rattle.network_serving.specs.Duties.{watch_duties};
+ghost use Rattle.network_serving.specs.Duties.{watch_duties, watches_at};
 ghost use Rattle.network_serving.specs.Ports.{watch_ports};
 ghost use Rattle.network_serving.specs.Starting.{IsPlanEnd, called};
 ghost use Rattle.network_serving.specs.Watches.{AreUnused, AreWatches, IsUnused};
@@ -38,26 +38,22 @@ fn informed(watchers: &mut Vec<Watcher>, told: &Told) -> Watcher
     }
 }
 
-/// Listens at the port of watchers, where the settings have one, once for each who answers them. Each of these tasks has a watcher
-/// that knows what was told.
-#[tactic(auto, using(crate::proofs::WatchTasks::no_watches, crate::proofs::Starts::want_plan))]
-pub(crate) fn plan_watches<Q: Ports, F: Drop, I: Drop, O: Drop, R: Wait + Clock + Copy + Drop>(
+// Listens at the port of watchers, once for each who answers them.
+#[tactic(auto, using(crate::proofs::Starts::want_plan))]
+fn plan_at<Q: Ports, F: Drop, I: Drop, O: Drop, R: Wait + Clock + Copy + Drop>(
     rt: R,
     alloc: Global,
     ports: &mut Q,
-    watch: Option<u16>,
+    port: u16,
     watchers: List<Watcher>,
     told: &Told,
 ) -> Result<Vec<Task<Q::Port, F, I, O, R>>, Served>
     requires unused { AreUnused (list_told told.now) watchers }
-    ensures ok { IfOk result (λ tasks. AreWatches Q.Port.opened_at Q.Port.heeds Q.Port.dialled_to (carried told.now) (list_told told.now) (watch_duties watch) tasks.items) }
-    ensures err { IfErr result (IsPlanEnd (watch_ports watch) (called (Q.calls ports.old, Q.calls ports.new) (Q.faults ports.old, Q.faults ports.new) (Q.failed_at ports.new))) }
+    ensures ok { IfOk result (λ tasks. AreWatches Q.Port.opened_at Q.Port.heeds Q.Port.dialled_to (carried told.now) (list_told told.now) (watches_at port 0 WATCHERS) tasks.items) }
+    ensures err { IfErr result (IsPlanEnd (replicate WATCHERS port) (called (Q.calls ports.old, Q.calls ports.new) (Q.faults ports.old, Q.faults ports.new) (Q.failed_at ports.new))) }
     ensures later { Q.faults ports.old ≤ Q.faults ports.new }
 {
     let mut tasks = Vec::new(alloc);
-    let Some(port) = watch else {
-        return Ok(tasks);
-    };
     let mut watchers = watchers.into_vec();
     for index in 0..WATCHERS {
         let listener = open_port(ports, port, Comes::Anyone)?;
@@ -73,4 +69,25 @@ pub(crate) fn plan_watches<Q: Ports, F: Drop, I: Drop, O: Drop, R: Wait + Clock 
         )?;
     }
     Ok(tasks)
+}
+
+/// Listens at the port of watchers, where the settings have one, once for each who answers them. Each of these tasks has a watcher
+/// that knows what was told.
+pub(crate) fn plan_watches<Q: Ports, F: Drop, I: Drop, O: Drop, R: Wait + Clock + Copy + Drop>(
+    rt: R,
+    alloc: Global,
+    ports: &mut Q,
+    watch: Option<u16>,
+    watchers: List<Watcher>,
+    told: &Told,
+) -> Result<Vec<Task<Q::Port, F, I, O, R>>, Served>
+    requires unused { AreUnused (list_told told.now) watchers }
+    ensures ok { IfOk result (λ tasks. AreWatches Q.Port.opened_at Q.Port.heeds Q.Port.dialled_to (carried told.now) (list_told told.now) (watch_duties watch) tasks.items) }
+    ensures err { IfErr result (IsPlanEnd (watch_ports watch) (called (Q.calls ports.old, Q.calls ports.new) (Q.faults ports.old, Q.faults ports.new) (Q.failed_at ports.new))) }
+    ensures later { Q.faults ports.old ≤ Q.faults ports.new }
+{
+    match watch {
+        Some(port) => plan_at::<Q, F, I, O, R>(rt, alloc, ports, port, watchers, told),
+        None => Ok(Vec::new(alloc)),
+    }
 }

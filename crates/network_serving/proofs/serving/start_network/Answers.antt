@@ -8,7 +8,7 @@ use Rattle.network_serving.specs.Bases.{Base, Desk, Operator, Server, base_in, s
 use Rattle.network_serving.specs.Spawners.{bases, faults_of, started}
 use Rattle.network_serving.specs.declared.duties.Duty.{Duty}
 use Rattle.network_serving.specs.Duties.{first_duties, watch_duties}
-use Rattle.network_serving.proofs.Plans.{planned_bases}
+use Rattle.network_serving.proofs.Plans.{planned_bases, planned_new}
 use Rattle.network_serving.specs.Ports.{ports_of}
 use Rattle.network_serving.specs.Starting.{Called, IsStartEnd, called}
 use Rattle.network_serving.specs.declared.served.Served.{Served}
@@ -26,7 +26,15 @@ returns-in_err-watches-clause-err g c =
     let end =
     watched_end n c.parts-parts.result.now.watch (g.Q.Ports.calls old) (g.Q.Ports.calls mid) (g.Q.Ports.calls new) (g.Q.Ports.faults old) (g.Q.Ports.faults mid) (g.Q.Ports.faults new) (g.Q.Ports.failed_at new) (faults_of c.args.spawner.now)
     c.in_err-watches.field-0.0 is c.in_ok-tasks.ensures.calls c.in_ok-tasks.ensures.later c.in_err-watches.ensures.err in
-    search (rules, end)
+    let from = c.from_residual-in_err-watches.ensures in
+    search (rules, end, from)
+
+pub start_all-requires-clause-new : goal.start_all-requires-clause-new
+start_all-requires-clause-new g c κs within =
+    planned_new g.Q.Port.Listener.opened_at g.Q.Port.Listener.heeds g.Q.Port.Listener.dialled_to (stand_of c.args.prepared.desk) c.in_ok-tasks.tasks.items c.in_ok-tasks.ensures.ok.1
+
+pub returns-clause-stand : goal.returns-clause-stand
+returns-clause-stand g c = c.in_ok-beside.ensures.stand ∙ c.in_ok-tasks.ensures.stand
 
 pub returns-in_err-start_all-clause-err : goal.returns-in_err-start_all-clause-err
 returns-in_err-start_all-clause-err g c =

@@ -4,7 +4,7 @@ use Rattle.network_serving.specs.Duties.{watches_at}
 use Rattle.network_serving.specs.Ends.{RoseBy}
 use Rattle.network_serving.specs.Watches.{AreWatches, IsUnused}
 use Rattle.network_serving.specs.declared.duties.TheConstants.{WATCHERS}
-use Rattle.network_serving.proofs.watches.plan_watches.Given as goal
+use Rattle.network_serving.proofs.watches.plan_at.Given as goal
 
 abbrev pub invariant-loop-index : goal.invariant-loop-index
 invariant-loop-index g l = record {
