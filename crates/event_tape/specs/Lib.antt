@@ -1,0 +1,4 @@
+-- for readers
+pub mod Tapes
+-- inner
+pub mod Fields
