@@ -1,18 +1,23 @@
 use Rattle.std.proofs.Common.{◌≡◌, ◌∙◌, ap, refl, sym}
 use Rattle.std.specs.Arc.{arc_value}
-use Rattle.atomic_table.specs.Seated.{TableId}
 use Rattle.plant_lock.specs.Seats.{own_entries, view_of}
-use Rattle.turn_desk.proofs.Turning.{seat_makes}
+use Rattle.kept_plant.specs.declared.acts.KeptAct.TheVariants.{Turn}
+use Rattle.turn_desk.specs.Seats.{seat_of}
+use Rattle.turn_desk.proofs.Seating.{seat_enters, turn_is_turned, turn_made}
 use Rattle.turn_desk.proofs.desk.TurnDesk.turn_telling.Goals as goal
+
+pub turned_in-requires : goal.turned_in-requires
+turned_in-requires g c = turn_is_turned (view_of c.args.self.now.seat) (view_of c.turn.new.seat) c.args.act c.in-Ok._place c.in-Ok.answer c.in-Ok.ensures.done
 
 pub returns-in-Ok : goal.returns-in-Ok
 returns-in-Ok g c =
     let old = c.args.self.now.seat in
     let new = c.turn.new.seat in
     let same : c.deref.result.now.table.shared.table_id ≡ (arc_value c.args.self.now.lock).table.shared.table_id = ap (λ t. t.table.shared.table_id) c.deref.ensures in
-    let here : new.seat.table_id ≡ old.seat.table_id = c.turn.ensures.here ∙ same ∙ sym c.args.self.now.here in (
-      c.in-Ok.turn,
+    let here : new.seat.table_id ≡ old.seat.table_id = c.turn.ensures.here ∙ same ∙ sym c.args.self.now.here in
+    let enters = seat_enters (view_of old) (view_of new) (Turn c.args.act) c.in-Ok._place c.in-Ok.answer c.in-Ok.ensures.done old.seat.table_id new.seat.table_id (own_entries old) (own_entries new) c.args.self.now.spent_at here c.in_default.is c.in-Ok.ensures.own in (
+      c.turned_in.result,
       refl,
       refl,
-      seat_makes old.seat.table_id new.seat.table_id (view_of old) (view_of new) (own_entries old) (own_entries new) c.args.self.now.spent_at c.args.act c.in-Ok._place c.in-Ok.turn here c.in_default.is c.in-Ok.ensures.done c.in-Ok.ensures.own,
+      turn_made (seat_of c.args.self.now) _ c.args.act c.in-Ok.answer c.turned_in.result c.turned_in.ensures enters,
     )
