@@ -1,1 +1,1 @@
--- lemmas
+pub mod Counted

@@ -2,3 +2,4 @@
 pub mod Tapes
 -- inner
 pub mod Fields
+pub mod Counting

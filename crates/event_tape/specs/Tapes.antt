@@ -1,5 +1,5 @@
 -- A tape of told events: what an item takes, what a tape hands out, and how it ends.
-use Rattle.std.specs.Prelude.{◌≡◌, ◌⊎◌, ◌+◌, ◌^◌, ◌&&◌, ℕ, Bool, true, false, ltb, List, [], ◌∷◌, ◌++◌, length, sum, map, Option, Some, None}
+use Rattle.std.specs.Prelude.{◌≡◌, ◌⊎◌, ◌+◌, ◌^◌, ◌&&◌, ℕ, Bool, true, false, leb, ltb, List, [], ◌∷◌, ◌++◌, length, map, Option, Some, None}
 use Rattle.std.specs.Arc.{arc_value}
 use Rattle.plant_model.specs.declared.event.Event.{Event}
 use Rattle.plant_model.specs.declared.event.Event.TheVariants as event
@@ -50,7 +50,7 @@ empty_tape ended = record { items = []; handed = 0; ended = ended }
 
 -- there is room for one more event, and a number of 64 bits
 abbrev pub fits : Taped → Event → Bool
-fits t e = ltb (octets_in (map event_of t.items) + octets_of e) (tape_room + 1) && ltb (t.handed + length t.items + 1) (2 ^ 64)
+fits t e = leb (octets_in (map event_of t.items) + octets_of e) tape_room && ltb (t.handed + length t.items + 1) (2 ^ 64)
 
 abbrev pub kept_on : Taped → Told → Taped
 kept_on t x = record t { items = t.items ++ x ∷ [] }

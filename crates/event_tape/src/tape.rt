@@ -1,5 +1,6 @@
 //! The tape.
 ghost use Rattle.std.specs.Prelude.{◌≡◌, Some, None, is_none};
+ghost use Rattle.event_tape.specs.Counting.{IsRoom};
 ghost use Rattle.event_tape.specs.Tapes.{IsPushed, emptied, ended_by, handed_of, octets_of, empty_tape, event_of};
 
 use crate::told::Told;
@@ -105,9 +106,11 @@ impl Tape {
     }
 
     // How many octets all items take with this one, where it fits and its number has 64 bits.
-    fn octets_with(&self, item: &Told) -> Option<u64> {
+    fn octets_with(&self, item: &Told) -> Option<u64>
+        ensures { IsRoom result self.now (event_of item.now) }
+    {
         let received = received_in(item) as u64;
-        if received > TAPE_ROOM || self.handed > u64::MAX - 1 - self.items.len() as u64 {
+        if received > TAPE_ROOM || self.handed + self.items.len() as u64 == u64::MAX {
             return None;
         }
         let octets = self.octets + received + ITEM_OCTETS;

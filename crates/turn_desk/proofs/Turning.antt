@@ -66,7 +66,6 @@ own_load e is = tt
 
 -- ---- a turn of the seat
 
--- what a turn makes of what a seat knows
 -- the answer to the act of a turn was allowed
 pub answered : (old new : Stand) (act : Act) (turn : ActAnswer) (m : Makes old new act turn) → (x : Held) × (new.start ≡ Some x) × Admits (replay left_by (whole x) m.before) act × Allowed (replay left_by (whole x) m.before) act turn
 answered old new act turn m = last_allowed whole Admits Allowed left_by new.start m.before act turn (subst (λ (h : List (Act × ActAnswer)). LegalFrom whole Admits Allowed left_by new.start h) m.seen m.legal)
