@@ -1,5 +1,5 @@
 //! The tape.
-ghost use Rattle.std.specs.Prelude.{◌≡◌, Some, None, is_none};
+ghost use Rattle.std.specs.Prelude.{◌≡◌, ◌+◌, Some, None, is_none};
 ghost use Rattle.event_tape.specs.Counting.{IsRoom};
 ghost use Rattle.event_tape.specs.Tapes.{IsPushed, emptied, ended_by, handed_of, octets_of, empty_tape, event_of};
 
