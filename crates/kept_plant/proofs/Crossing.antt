@@ -4,9 +4,7 @@ use Rattle.std.proofs.Crossing.{Arc-send, crosses}
 use Rattle.te_links.specs.contracts.topology.Topology as Topology
 use Rattle.event_tape.specs.contracts.tape.Tape as Tape
 use Rattle.event_tape.specs.contracts.told.Told as Told
-use Rattle.plant_network.proofs.Crossing.{act_send, plant_send, turn_send}
-use Rattle.kept_plant.specs.contracts.acts.KeptAct as KeptAct
-use Rattle.kept_plant.specs.contracts.acts.KeptAnswer as KeptAnswer
+use Rattle.plant_network.proofs.Crossing.{plant_send}
 use Rattle.kept_plant.specs.contracts.kept.KeptPlant as KeptPlant
 
 topology_send : IsSend Topology.the_row
@@ -19,7 +17,7 @@ told_field_send : IsSend Told.the_field.row
 told_field_send = search (topology_send, topology_sync, Arc-send, sendable, crosses) depth 60 fits 30000
 
 tape_send : IsSend Tape.the_row
-tape_send = search (told_field_send, topology_send, topology_sync, Arc-send, sendable, crosses) depth 60 fits 30000
+tape_send = search (told_field_send, sendable, crosses) depth 60 fits 30000
 
 pub kept_send : IsSend KeptPlant.the_row
 kept_send = search (plant_send, tape_send, sendable, crosses) depth 60 fits 30000

@@ -30,7 +30,7 @@ pub record Stays (out : List Told) (old new : Taped) : Type 0 where
 pub record Goes (out : List Told) (o : Option Event) (old new : Taped) : Type 0 where
   pub told : map event_of (out ++ new.items) ≡ map event_of old.items ++ cons_option o []
   pub counted : new.handed ≡ old.handed + length out
-  pub open : new.ended ≡ None
+  pub unended : new.ended ≡ None
 
 same_count : (n : ℕ) → n ≡ n + 0
 same_count n = omega arith
@@ -48,19 +48,19 @@ end_stays : (why : TapeEnd) (old new : Taped) → new ≡ ended_by why old → S
 end_stays why old new is = record { items = ap (λ (t : Taped). t.items) is; counted = ap (λ (t : Taped). t.handed) is ∙ same_count old.handed }
 
 stays_goes : (out : List Told) (old new : Taped) → Stays out old new → new.ended ≡ None → Goes out None old new
-stays_goes out old new stays open = record {
+stays_goes out old new stays unended = record {
   told = ap (map event_of) stays.items ∙ sym (append-nil (map event_of old.items));
   counted = stays.counted;
-  open = open;
+  unended = unended;
 }
 
 kept_goes : (e : Event) (x : Told) (old new : Taped) → event_of x ≡ e → new ≡ kept_on old x → old.ended ≡ None → Goes [] (Some e) old new
-kept_goes e x old new at is open = record {
+kept_goes e x old new at is unended = record {
   told =
       ap (λ (t : Taped). map event_of t.items) is ∙ map-append event_of old.items (x ∷ [])
       ∙ ap (λ (y : Event). map event_of old.items ++ y ∷ []) at;
   counted = ap (λ (t : Taped). t.handed) is ∙ same_count old.handed;
-  open = ap (λ (t : Taped). t.ended) is ∙ open;
+  unended = ap (λ (t : Taped). t.ended) is ∙ unended;
 }
 
 -- the reason why a tape ended to which this was told
@@ -74,24 +74,24 @@ pub record EndsAt (why : TapeEnd) (old new : Taped) : Type 0 where
   pub ended : new.ended ≡ Some why
 
 ends_at : (why : TapeEnd) (old new : Taped) → old.ended ≡ None → new ≡ ended_by why old → EndsAt why old new
-ends_at why old new open is = record {
+ends_at why old new unended is = record {
   stays = end_stays why old new is;
-  ended = ap (λ (t : Taped). t.ended) is ∙ ap (λ (o : Option TapeEnd). Some (end_after o why)) open;
+  ended = ap (λ (t : Taped). t.ended) is ∙ ap (λ (o : Option TapeEnd). Some (end_after o why)) unended;
 }
 
 abbrev Ended : Option Event → Taped → Taped → Type 0
 Ended o old new = (why : TapeEnd) × EndsAt why old new × Reason why o old
 
 open_cases : (e : Event) (old new : Taped) → old.ended ≡ None → IsToldOpen e old new → Goes [] (Some e) old new ⊎ Ended (Some e) old new
-open_cases e old new open is = elim is [
-  | inl kept ↦ inl (kept_goes e kept.0 old new kept.1 kept.3 open)
-  | inr (inl behind) ↦ inr (end.Behind, ends_at end.Behind old new open behind.1, (e, refl, behind.0))
-  | inr (inr none) ↦ inr (end.NoMemory, ends_at end.NoMemory old new open none, (e, refl))
+open_cases e old new unended is = elim is [
+  | inl kept ↦ inl (kept_goes e kept.0 old new kept.1 kept.3 unended)
+  | inr (inl behind) ↦ inr (end.Behind, ends_at end.Behind old new unended behind.1, (e, refl, behind.0))
+  | inr (inr none) ↦ inr (end.NoMemory, ends_at end.NoMemory old new unended none, (e, refl))
 ]
 
 fold_cases : (o : Option Event) (old new : Taped) → old.ended ≡ None → Folds o old new → Goes [] o old new ⊎ Ended o old new
-fold_cases None old new open is = inl (stays_goes [] old new (same_stays old new is) (ap (λ (t : Taped). t.ended) is ∙ open))
-fold_cases (Some e) old new open is = open_cases e old new open (subst (λ (ended : Option TapeEnd). IsToldTo ended e old new) open is)
+fold_cases None old new unended is = inl (stays_goes [] old new (same_stays old new is) (ap (λ (t : Taped). t.ended) is ∙ unended))
+fold_cases (Some e) old new unended is = open_cases e old new unended (subst (λ (ended : Option TapeEnd). IsToldTo ended e old new) unended is)
 
 fold_same : (o : Option Event) (old new : Taped) (why : TapeEnd) → old.ended ≡ Some why → Folds o old new → new ≡ old
 fold_same None old new why at is = is
@@ -114,14 +114,14 @@ told_reason end.NoMemory t a r is = is
 told_reason end.Stopped t a r is = absurd is
 
 entry_cases : (s : Kept) (a : KeptAct) (r : KeptAnswer) → s.tape.ended ≡ None → KeptAllows s a r → GoesBy s a r ⊎ EndsBy s a r
-entry_cases s (Turn a) (Turned t tape) open allows = elim (fold_cases (told_event a t.acted) s.tape tape.value open allows.1) [
+entry_cases s (Turn a) (Turned t tape) unended allows = elim (fold_cases (told_event a t.acted) s.tape tape.value unended allows.1) [
   | inl goes ↦ inl goes
   | inr ended ↦ inr (ended.0, ended.1.stays, ended.1.ended, told_reason ended.0 s.tape (Turn a) (Turned t tape) ended.2)
 ]
-entry_cases s (Hand empty) (Handed h) open allows = inl (stays_goes h.items s.tape (emptied s.tape) (hand_stays h s.tape allows) open)
-entry_cases s Stop Stopped open allows =
-    let ends : EndsAt end.Stopped s.tape (ended_by end.Stopped s.tape) = ends_at end.Stopped s.tape (ended_by end.Stopped s.tape) open refl in inr (end.Stopped, ends.stays, ends.ended, refl)
-entry_cases s a r open allows = absurd allows
+entry_cases s (Hand empty) (Handed h) unended allows = inl (stays_goes h.items s.tape (emptied s.tape) (hand_stays h s.tape allows) unended)
+entry_cases s Stop Stopped unended allows =
+    let ends : EndsAt end.Stopped s.tape (ended_by end.Stopped s.tape) = ends_at end.Stopped s.tape (ended_by end.Stopped s.tape) unended refl in inr (end.Stopped, ends.stays, ends.ended, refl)
+entry_cases s a r unended allows = absurd allows
 
 entry_stays : (why : TapeEnd) (s : Kept) (a : KeptAct) (r : KeptAnswer) → s.tape.ended ≡ Some why → KeptAllows s a r → StaysBy why s a r
 entry_stays why s (Turn a) (Turned t tape) at allows =
@@ -183,12 +183,12 @@ module _ (s : Kept) (e : KeptAct × KeptAnswer) (es : List (KeptAct × KeptAnswe
 
   -- nothing of these turns is told, as the tape ends in the first
   ends_here : (why : TapeEnd) → s.tape.ended ≡ None → IsReason why s.tape e.0 e.1 → IsEnded why s (e ∷ es) → Tells s (e ∷ es)
-  ends_here why open reason ended = record {
+  ends_here why unended reason ended = record {
     before = [];
     later = e ∷ es;
     is = refl;
     told = ap (map event_of) ended.items ∙ sym (append-nil (map event_of s.tape.items));
-    ends = subst (λ (o : Option TapeEnd). EndsIn o s.tape (e ∷ es)) (sym ended.ended) (open, reason);
+    ends = subst (λ (o : Option TapeEnd). EndsIn o s.tape (e ∷ es)) (sym ended.ended) (unended, reason);
     counted = ended.counted;
   }
 
@@ -198,15 +198,15 @@ ended_tapes why s (e ∷ es) at legal =
     let first : StaysBy why s e.0 e.1 = entry_stays why s e.0 e.1 at legal.1 in stays_on s e es why first.0 (ended_tapes why (kept_after s e.0 e.1) es first.1 legal.2)
 
 pub open_tapes : (s : Kept) (es : List (KeptAct × KeptAnswer)) → s.tape.ended ≡ None → KeptLegal s es → Tells s es
-open_tapes s [] open legal = record {
+open_tapes s [] unended legal = record {
   before = [];
   later = [];
   is = refl;
   told = sym (append-nil (map event_of s.tape.items));
-  ends = subst (λ (o : Option TapeEnd). EndsIn o s.tape []) (sym open) refl;
+  ends = subst (λ (o : Option TapeEnd). EndsIn o s.tape []) (sym unended) refl;
   counted = same_count s.tape.handed;
 }
-open_tapes s (e ∷ es) open legal = elim (entry_cases s e.0 e.1 open legal.1) [
-  | inl goes ↦ goes_on s e es goes (open_tapes (kept_after s e.0 e.1) es goes.open legal.2)
-  | inr ends ↦ ends_here s e es ends.0 open ends.3 (stays_on s e es ends.0 ends.1 (ended_tapes ends.0 (kept_after s e.0 e.1) es ends.2 legal.2))
+open_tapes s (e ∷ es) unended legal = elim (entry_cases s e.0 e.1 unended legal.1) [
+  | inl goes ↦ goes_on s e es goes (open_tapes (kept_after s e.0 e.1) es goes.unended legal.2)
+  | inr ends ↦ ends_here s e es ends.0 unended ends.3 (stays_on s e es ends.0 ends.1 (ended_tapes ends.0 (kept_after s e.0 e.1) es ends.2 legal.2))
 ]

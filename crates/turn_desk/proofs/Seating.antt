@@ -21,7 +21,7 @@ use Rattle.kept_plant.specs.declared.acts.KeptAct.TheVariants.{Turn, Hand, Stop}
 use Rattle.kept_plant.specs.declared.acts.KeptAnswer.{KeptAnswer}
 use Rattle.kept_plant.specs.declared.acts.KeptAnswer.TheVariants.{Turned, Handed, Stopped}
 use Rattle.kept_plant.specs.declared.kept.KeptPlant.{KeptPlant}
-use Rattle.turn_desk.specs.Desks.{Makes, Rests, SeesOn, Stand, stand_on}
+use Rattle.turn_desk.specs.Desks.{IsStill, Makes, Rests, stand_on}
 use Rattle.turn_desk.specs.Histories.{plant_at}
 use Rattle.turn_desk.specs.Seats.{Enters, IsTurned, IsTurnedAs, Keeps, Seated}
 
@@ -106,15 +106,11 @@ module _ (old new : Seated) where
   }
 
   -- an entry that is no turn of the network
-  pub passed : (act : KeptAct) (r : KeptAnswer) → turn_of act r ≡ None → Enters old new act r → SeesOn (stand_on old) (stand_on new)
-  passed act r none e = record {
-    begins = subst (λ (l : List (Act × ActAnswer)). StartsWith l (turns_of old.seen)) (sym (ap turns_of e.seen ∙ no_turn_behind e.before act r none)) (turns_begin e.before old.seen e.begins);
-    own = ap turns_of e.own ∙ no_turn_behind old.own act r none;
-    lock = e.lock;
-    start = ap plant_at e.start;
-    legal = network_legal new.start new.seen e.legal;
-    spent = e.spent;
-  }
+  pub entry_still : (act : KeptAct) (r : KeptAnswer) → Enters old new act r → IsStill (stand_on old) (stand_on new)
+  entry_still act r e first at = record { lock = e.lock ∙ at.lock; start = ap plant_at e.start ∙ at.start; legal = network_legal new.start new.seen e.legal }
+
+  pub own_still : (act : KeptAct) (r : KeptAnswer) → turn_of act r ≡ None → Enters old new act r → turns_of new.own ≡ turns_of old.own
+  own_still act r none e = ap turns_of e.own ∙ no_turn_behind old.own act r none
 
   pub rested : (number : ℕ) → Keeps old new number → Rests (stand_on old) (stand_on new) number
   rested number k = record {

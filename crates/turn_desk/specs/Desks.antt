@@ -75,6 +75,18 @@ IsOpened h s = s ≡ opened_by s.lock h
 abbrev pub split_from : Stand → Stand
 split_from s = record s { own = []; spent = None }
 
+-- ---- where it stands
+
+-- A desk at the same lock as another. What it has seen is a legal history of that lock.
+pub record IsAtLock (first s : Stand) : Type 0 where
+  pub lock : s.lock ≡ first.lock
+  pub start : s.start ≡ first.start
+  pub legal : LegalFrom whole Admits Allowed left_by s.start s.seen
+
+-- at whichever lock it was, it still is
+abbrev pub IsStill : Stand → Stand → Type 0
+IsStill old new = (first : Stand) → IsAtLock first old → IsAtLock first new
+
 -- ---- what its entries are as calls
 
 -- what a desk answers where the network answered so
@@ -138,19 +150,6 @@ pub record Rests (old new : Stand) (number : ℕ) : Type 0 where
   pub spent : new.spent ≡ Some number
   pub stays : (t : ℕ) → old.spent ≡ Some t → t ≡ number
   pub first : old.spent ≡ None → (2 ^ 63 ≤ number) × (new.met ≡ number)
-
--- The desk has seen on, without a turn of the network.
-pub record SeesOn (old new : Stand) : Type 0 where
-  pub begins : StartsWith new.seen old.seen
-  pub own : new.own ≡ old.own
-  pub lock : new.lock ≡ old.lock
-  pub start : new.start ≡ old.start
-  pub legal : LegalFrom whole Admits Allowed left_by new.start new.seen
-  pub spent : (old.spent ≡ None) × (new.spent ≡ None)
-
-abbrev pub IsPassed : {X : Type 0} → Result X ℕ → Stand → Stand → Type 0
-IsPassed {X} (Ok x) old new = SeesOn old new
-IsPassed {X} (Err number) old new = Rests old new number
 
 -- a turn, or none of a desk that is spent
 abbrev pub IsTurn : Act → Result Acted ℕ → Stand → Stand → Type 0

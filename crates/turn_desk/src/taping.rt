@@ -1,6 +1,6 @@
 //! What whoever writes the tape calls.
 ghost use Rattle.std.specs.Prelude.{◌≡◌};
-ghost use Rattle.turn_desk.specs.Desks.{IsPassed, stand_of};
+ghost use Rattle.turn_desk.specs.Desks.{IsStill, stand_of};
 ghost use Rattle.turn_desk.specs.Seats.{IsHand, IsStop, seat_of};
 
 use crate::answers::handed_in;
@@ -15,7 +15,8 @@ impl<R: Wait + Clock> TurnDesk<R> {
     /// The tape hands out what it holds, and goes on in the memory of this list; or the number at which the desk was spent.
     pub fn hand(&mut self, empty: List<Told>) -> Result<Handed, u64>
         ensures hands { IsHand empty result (seat_of self.old) (seat_of self.new) }
-        ensures passes { IsPassed result (stand_of self.old) (stand_of self.new) }
+        ensures stays { IsStill (stand_of self.old) (stand_of self.new) }
+        ensures own { (stand_of self.new).own ≡ (stand_of self.old).own }
     {
         if let Some(number) = self.spent_at {
             return Err(number);
@@ -32,7 +33,8 @@ impl<R: Wait + Clock> TurnDesk<R> {
     /// The tape ends, behind all that was done before; or the number at which the desk was spent.
     pub fn stop(&mut self) -> Result<(), u64>
         ensures stops { IsStop result (seat_of self.old) (seat_of self.new) }
-        ensures passes { IsPassed result (stand_of self.old) (stand_of self.new) }
+        ensures stays { IsStill (stand_of self.old) (stand_of self.new) }
+        ensures own { (stand_of self.new).own ≡ (stand_of self.old).own }
     {
         if let Some(number) = self.spent_at {
             return Err(number);
