@@ -1,5 +1,5 @@
 -- What was begun of an act, and is kept behind it, is what is told of the turn.
-use Rattle.std.proofs.Common.{◌≡◌, ◌∙◌, Bool, true, false, cond, Option, Some, None, Ok, Err, inl, inr, refl, ap, subst, sym}
+use Rattle.std.proofs.Common.{◌≡◌, ◌∙◌, Bool, true, false, cond, Option, Some, None, Ok, Err, inl, inr, refl, ap, arith, suc, subst, sym}
 use Rattle.te_links.specs.Rows.{Rows}
 use Rattle.plant_text.specs.Names.{same_as}
 use Rattle.plant_text.specs.Settings.{is_element}
@@ -11,6 +11,7 @@ use Rattle.plant_network.specs.plant_model.Types.{As, NetworkParts}
 use Rattle.plant_network.specs.plant_model.declared.event.Event.{Event}
 use Rattle.plant_network.specs.plant_model.declared.event.Event.TheVariants.{Load}
 use Rattle.plant_network.specs.plant_model.declared.outcome.Outcome.{Outcome}
+use Rattle.plant_network.specs.plant_model.declared.outcome.Refused.{Refused}
 use Rattle.plant_network.specs.plant_model.declared.outcome.Refused.TheVariants as refused
 use Rattle.plant_network.specs.plant_model.Names.{set_as}
 use Rattle.plant_network.specs.plant_model.Plant.{Happened, Pin, Plant, Steps, is_full, load_new, refused as refused_as}
@@ -67,20 +68,20 @@ module _ (n : NetworkParts) (d : As) (g : Rows) (s : Plant) (o : Outcome) where
   abbrev IsLoaded : Happened → Type 0
   IsLoaded h = (h.state.current d).topology ≡ g
 
-  not_refused : (why : refused.Refused) (h : Happened) → h ≡ refused_as wire n why s → h.answer ≡ Ok o → IsLoaded h
-  not_refused why h is yes = let both : Err why ≡ Ok o = sym (ap (λ (x : Happened). x.answer) is) ∙ yes in absurd (let no : ⊥ = cc in no)
+  not_refused : (why : Refused) (h : Happened) → h ≡ refused_as wire n why s → h.answer ≡ Ok o → IsLoaded h
+  not_refused why h is accepts = let both : Err why ≡ Ok o = sym (ap (λ (x : Happened). x.answer) is) ∙ accepts in absurd (let no : ⊥ = cc in no)
 
   own : (v : Pin) → set_as d v s.current d ≡ v
   own v = ap (λ (b : Bool). cond b v (s.current d)) (same_self d)
 
   happens : (is_there full : Bool) (h : Happened) → h ≡ cond is_there (cond full (refused_as wire n refused.GenerationsFull s) (load_new wire n d g s)) (refused_as wire n refused.NoSuchPeer s) → h.answer ≡ Ok o → IsLoaded h
-  happens true false h is yes = ap (λ (x : Happened). (x.state.current d).topology) is ∙ ap (λ (p : Pin). p.topology) (own (record { number = suc (s.current d).number; topology = g }))
-  happens true true h is yes = not_refused refused.GenerationsFull h is yes
-  happens false full h is yes = not_refused refused.NoSuchPeer h is yes
+  happens true false h is accepts = ap (λ (x : Happened). (x.state.current d).topology) is ∙ ap (λ (p : Pin). p.topology) (own (record { number = suc (s.current d).number; topology = g }))
+  happens true true h is accepts = not_refused refused.GenerationsFull h is accepts
+  happens false full h is accepts = not_refused refused.NoSuchPeer h is accepts
 
   step_loads : (h : Happened) → Steps wire n s (Load d g) h → h.answer ≡ Ok o → IsLoaded h
-  step_loads h (inl is) yes = happens (is_element n d) (is_full (s.current d).number (s.elements d).pending.rows) h is yes
-  step_loads h (inr none) yes = not_refused refused.NoMemory h none.1 yes
+  step_loads h (inl is) accepts = happens (is_element n d) (is_full (s.current d).number (s.elements d).pending.rows) h is accepts
+  step_loads h (inr none) accepts = not_refused refused.NoMemory h none.1 accepts
 
 loaded : (w next : Whole) (d : As) (g : Rows) (o : Outcome) → Stepped w (Load d g) (Ok o) next → (next.state.current d).topology ≡ g
 loaded w next d g o is = step_loads w.network d g w.state o (record { answer = Ok o; state = next.state; deeds = is.deeds }) is.steps refl
@@ -90,26 +91,26 @@ loaded w next d g o is = step_loads w.network d g w.state o (record { answer = O
 module _ (w next : Whole) where
   -- the element has the topology that was accepted
   load_kept : (d : As) (g : Rows) (a : Act) (r : Acted) → IsAnswer w a r next → tells r ≡ true → event_in a ≡ Some (Load d g) → (next.state.current d).topology ≡ g
-  load_kept d g (Do e) (Did (Ok o)) answer yes at = let same : e ≡ Load d g = cc in loaded w next d g o (subst (λ (x : Event). Stepped w x (Ok o) next) same answer.stepped)
-  load_kept d g (Do e) (Did (Err why)) answer yes at = absurd (let no : ⊥ = cc in no)
-  load_kept d g (Finish x) (Committed r) answer yes at = absurd (let no : ⊥ = cc in no)
-  load_kept d g (Look e k) r answer yes at = absurd (let no : ⊥ = cc in no)
-  load_kept d g (Ready k) r answer yes at = absurd (let no : ⊥ = cc in no)
-  load_kept d g (Next e k) r answer yes at = absurd (let no : ⊥ = cc in no)
-  load_kept d g (Map e) r answer yes at = absurd (let no : ⊥ = cc in no)
-  load_kept d g a r answer yes at = absurd answer
+  load_kept d g (Do e) (Did (Ok o)) answer accepts at = let same : e ≡ Load d g = cc in loaded w next d g o (subst (λ (x : Event). Stepped w x (Ok o) next) same answer.stepped)
+  load_kept d g (Do e) (Did (Err why)) answer accepts at = absurd (let no : ⊥ = cc in no)
+  load_kept d g (Finish x) (Committed r) answer accepts at = absurd (let no : ⊥ = cc in no)
+  load_kept d g (Look e k) r answer accepts at = absurd (let no : ⊥ = cc in no)
+  load_kept d g (Ready k) r answer accepts at = absurd (let no : ⊥ = cc in no)
+  load_kept d g (Next e k) r answer accepts at = absurd (let no : ⊥ = cc in no)
+  load_kept d g (Map e) r answer accepts at = absurd (let no : ⊥ = cc in no)
+  load_kept d g a r answer accepts at = absurd answer
 
   module _ (a : Act) (r : Acted) (b : Begun) (old new : Taped) (answer : IsAnswer w a r next) where
     by_begun : (e : Event) (c : Begun) → event_in a ≡ Some e → tells r ≡ true → IsBegunAt e c → Keeps c next old new → Folds (Some e) old new
-    by_begun e begun.Nothing at yes is keeps = absurd is
-    by_begun e (begun.Item x) at yes is keeps = subst (λ (z : Event). Folds (Some z) old new) is keeps
-    by_begun e (begun.Loads d) at yes is keeps =
-        let same : Load d (next.state.current d).topology ≡ e = ap (Load d) (load_kept d is.0 a r answer yes (at ∙ ap (λ (z : Event). Some z) is.1)) ∙ sym is.1 in subst (λ (z : Event). Folds (Some z) old new) same keeps
-    by_begun e begun.NoMemory at yes is keeps = memory_lacks old new e keeps
+    by_begun e begun.Nothing at accepts is keeps = absurd is
+    by_begun e (begun.Item x) at accepts is keeps = subst (λ (z : Event). Folds (Some z) old new) is keeps
+    by_begun e (begun.Loads d) at accepts is keeps =
+        let same : Load d (next.state.current d).topology ≡ e = ap (Load d) (load_kept d is.0 a r answer accepts (at ∙ ap (λ (z : Event). Some z) is.1)) ∙ sym is.1 in subst (λ (z : Event). Folds (Some z) old new) same keeps
+    by_begun e begun.NoMemory at accepts is keeps = memory_lacks old new e keeps
 
     by_event : (o : Option Event) → event_in a ≡ o → tells r ≡ true → IsBegun o b → Keeps b next old new → Folds o old new
-    by_event None at yes is keeps = subst (λ (c : Begun). Keeps c next old new) is keeps
-    by_event (Some e) at yes is keeps = by_begun e b at yes is keeps
+    by_event None at accepts is keeps = subst (λ (c : Begun). Keeps c next old new) is keeps
+    by_event (Some e) at accepts is keeps = by_begun e b at accepts is keeps
 
     by_answer : (t : Bool) → tells r ≡ t → IsBegun (event_in a) b → KeepsIf t b next old new → Folds (cond t (event_in a) None) old new
     by_answer false at is keeps = keeps
