@@ -1,12 +1,14 @@
 -- What an entry of the lock's history means for the turns of the network.
-use Rattle.std.proofs.Common.{◌≡◌, ◌∙◌, ℕ, List, [], ◌∷◌, ◌++◌, Option, Some, None, ap, append-nil, refl, subst, sym}
+use Rattle.std.proofs.Common.{◌≡◌, ◌∙◌, ℕ, List, [], ◌∷◌, ◌++◌, Option, Some, None, Ok, Err, ap, append-nil, refl, subst, sym}
+use Rattle.std.specs.Prelude.{Result}
 use Rattle.std.specs.List.{cons_option}
 use Rattle.std.proofs.lemmas.List.Elements.{filter_map-append}
 use Rattle.atomic_table.specs.Seated.{TableId}
 use Rattle.plant_lock.specs.declared.view.View.{View}
-use Rattle.plant_lock.specs.History.{StartsWith}
-use Rattle.plant_lock.specs.Views.{Adds, LegalFrom}
+use Rattle.plant_lock.specs.History.{StartsWith, entries_at, replay}
+use Rattle.plant_lock.specs.Views.{Adds, LegalFrom, opened}
 use Rattle.plant_lock.proofs.Turns.{last_allowed}
+use Rattle.event_tape.specs.Tapes.{Taped}
 use Rattle.event_tape.specs.declared.tape.Handed.{Handed as HandedOut}
 use Rattle.event_tape.specs.declared.told.Told.{Told}
 use Rattle.plant_network.specs.Topologies.{whole}
@@ -23,7 +25,9 @@ use Rattle.kept_plant.specs.declared.acts.KeptAnswer.TheVariants.{Turned, Handed
 use Rattle.kept_plant.specs.declared.kept.KeptPlant.{KeptPlant}
 use Rattle.turn_desk.specs.Desks.{IsStill, Makes, Rests, stand_on}
 use Rattle.turn_desk.specs.Histories.{plant_at}
-use Rattle.turn_desk.specs.Seats.{Enters, IsTurned, IsTurnedAs, Keeps, Seated}
+use Rattle.turn_desk.specs.Seats.{Enters, IsEntry, IsTurned, IsTurnedAs, Keeps, Seated}
+use Rattle.turn_desk.specs.Opened.{HasTape, IsOpenedSo}
+use Rattle.turn_desk.proofs.Turning.{rests_still}
 
 abbrev Entries : Type 0
 Entries = List (KeptAct × KeptAnswer)
@@ -43,33 +47,43 @@ module _ (s : Kept) where
   is_stopped Stopped allows = refl
   is_stopped r allows = absurd allows
 
-module _ (v w : View KeptPlant KeptAct KeptAnswer) (act : KeptAct) (n : ℕ) (r : KeptAnswer) (adds : Adds kept_of KeptAdmits KeptAllows kept_after v act n r w) where
-  allowed : (s : Kept) × KeptAllows s act r
-  allowed =
-      let a = last_allowed kept_of KeptAdmits KeptAllows kept_after w.start (v.seen ++ adds.between) act r (subst (λ (h : Entries). LegalFrom kept_of KeptAdmits KeptAllows kept_after w.start h) adds.grown adds.legal) in (_, a.3)
+-- an entry of a seat
+pub seat_enters : (v w : View KeptPlant KeptAct KeptAnswer) (act : KeptAct) (n : ℕ) (r : KeptAnswer) → Adds kept_of KeptAdmits KeptAllows kept_after v act n r w → (lock at : TableId) (own owned : Entries) (spent : Option ℕ) → at ≡ lock → spent ≡ None →
+    owned ≡ own ++ (act, r) ∷ [] →
+    Enters (record { lock = lock; start = v.start; seen = v.seen; own = own; met = v.met; spent = spent }) (record { lock = at; start = w.start; seen = w.seen; own = owned; met = w.met; spent = spent }) act r
+seat_enters v w act n r adds lock at own owned spent here none is = record {
+  before = v.seen ++ adds.between;
+  begins = (adds.between, refl);
+  seen = adds.grown;
+  own = is;
+  lock = here;
+  start = adds.same_start;
+  legal = adds.legal;
+  spent = (none, none);
+}
 
-  -- an entry of a seat
-  pub seat_enters : (lock at : TableId) (own owned : Entries) (spent : Option ℕ) → at ≡ lock → spent ≡ None → owned ≡ own ++ (act, r) ∷ [] →
-      Enters (record { lock = lock; start = v.start; seen = v.seen; own = own; met = v.met; spent = spent }) (record { lock = at; start = w.start; seen = w.seen; own = owned; met = w.met; spent = spent }) act r
-  seat_enters lock at own owned spent here none is = record {
-    before = v.seen ++ adds.between;
-    begins = (adds.between, refl);
-    seen = adds.grown;
-    own = is;
-    lock = here;
-    start = adds.same_start;
-    legal = adds.legal;
-    spent = (none, none);
-  }
+-- its answer was allowed
+allowed : (old new : Seated) (act : KeptAct) (r : KeptAnswer) → Enters old new act r → (s : Kept) × KeptAllows s act r
+allowed old new act r e =
+    let a = last_allowed kept_of KeptAdmits KeptAllows kept_after new.start e.before act r (subst (λ (h : Entries). LegalFrom kept_of KeptAdmits KeptAllows kept_after new.start h) e.seen e.legal) in
+    (replay kept_after (kept_of a.0) e.before, a.3)
 
-pub turn_is_turned : (v w : View KeptPlant KeptAct KeptAnswer) (act : Act) (n : ℕ) (r : KeptAnswer) → Adds kept_of KeptAdmits KeptAllows kept_after v (Turn act) n r w → IsTurned r
-turn_is_turned v w act n r adds = let a = allowed v w (Turn act) n r adds in is_turned a.0 act r a.1
+module _ (old new : Seated) where
+  pub turn_is_turned : (act : Act) (r : KeptAnswer) → Enters old new (Turn act) r → IsTurned r
+  turn_is_turned act r e = let a = allowed old new (Turn act) r e in is_turned a.0 act r a.1
 
-pub hand_is_handed : (v w : View KeptPlant KeptAct KeptAnswer) (empty : List Told) (n : ℕ) (r : KeptAnswer) → Adds kept_of KeptAdmits KeptAllows kept_after v (Hand empty) n r w → (h : HandedOut) × (r ≡ Handed h)
-hand_is_handed v w empty n r adds = let a = allowed v w (Hand empty) n r adds in is_handed a.0 empty r a.1
+  pub hand_is_handed : (empty : List Told) (r : KeptAnswer) → Enters old new (Hand empty) r → (h : HandedOut) × (r ≡ Handed h)
+  hand_is_handed empty r e = let a = allowed old new (Hand empty) r e in is_handed a.0 empty r a.1
 
-pub stop_is_stopped : (v w : View KeptPlant KeptAct KeptAnswer) (n : ℕ) (r : KeptAnswer) → Adds kept_of KeptAdmits KeptAllows kept_after v Stop n r w → r ≡ Stopped
-stop_is_stopped v w n r adds = let a = allowed v w Stop n r adds in is_stopped a.0 r a.1
+  pub stop_is_stopped : (r : KeptAnswer) → Enters old new Stop r → Enters old new Stop Stopped
+  stop_is_stopped r e = let a = allowed old new Stop r e in subst (λ (x : KeptAnswer). Enters old new Stop x) (is_stopped a.0 r a.1) e
+
+-- the first desk at a lock
+pub opened_so : (d : Seated) (lock : TableId) (v : View KeptPlant KeptAct KeptAnswer) (k : KeptPlant) (n : ℕ) (tape : Taped) → v ≡ opened k n → k.tape ≡ tape →
+    d ≡ record { lock = lock; start = v.start; seen = v.seen; own = entries_at v.seen v.places; met = v.met; spent = None } → IsOpenedSo tape d
+opened_so d lock v k n tape is same at =
+    let start : HasTape tape v.start = subst (HasTape tape) (sym (ap (λ (x : View KeptPlant KeptAct KeptAnswer). x.start) is)) same in
+    subst (IsOpenedSo tape) (sym at) (start, ap (λ (x : View KeptPlant KeptAct KeptAnswer). x.seen) is, ap (λ (x : View KeptPlant KeptAct KeptAnswer). entries_at x.seen x.places) is, refl)
 
 -- ---- histories
 
@@ -105,13 +119,6 @@ module _ (old new : Seated) where
     spent = e.spent;
   }
 
-  -- an entry that is no turn of the network
-  pub entry_still : (act : KeptAct) (r : KeptAnswer) → Enters old new act r → IsStill (stand_on old) (stand_on new)
-  entry_still act r e first at = record { lock = e.lock ∙ at.lock; start = ap plant_at e.start ∙ at.start; legal = network_legal new.start new.seen e.legal }
-
-  pub own_still : (act : KeptAct) (r : KeptAnswer) → turn_of act r ≡ None → Enters old new act r → turns_of new.own ≡ turns_of old.own
-  own_still act r none e = ap turns_of e.own ∙ no_turn_behind old.own act r none
-
   pub rested : (number : ℕ) → Keeps old new number → Rests (stand_on old) (stand_on new) number
   rested number k = record {
     seen = ap turns_of k.seen;
@@ -122,3 +129,13 @@ module _ (old new : Seated) where
     stays = k.stays;
     first = k.first;
   }
+
+  -- no entry moves a desk
+  pub entry_still : (act : KeptAct) (r : Result KeptAnswer ℕ) → IsEntry act r old new → IsStill (stand_on old) (stand_on new)
+  entry_still act (Ok answer) e = λ first at. record { lock = e.lock ∙ at.lock; start = ap plant_at e.start ∙ at.start; legal = network_legal new.start new.seen e.legal }
+  entry_still act (Err number) k = rests_still (stand_on old) (stand_on new) number (rested number k)
+
+  -- an entry that is no turn of the network
+  pub entry_own : (act : KeptAct) (r : Result KeptAnswer ℕ) → ((answer : KeptAnswer) → turn_of act answer ≡ None) → IsEntry act r old new → turns_of new.own ≡ turns_of old.own
+  entry_own act (Ok answer) none e = ap turns_of e.own ∙ no_turn_behind old.own act answer (none answer)
+  entry_own act (Err number) none k = ap turns_of k.own

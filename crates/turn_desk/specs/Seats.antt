@@ -67,12 +67,17 @@ pub record Keeps (old new : Seated) (number : ℕ) : Type 0 where
   pub stays : (t : ℕ) → old.spent ≡ Some t → t ≡ number
   pub first : old.spent ≡ None → (2 ^ 63 ≤ number) × (new.met ≡ number)
 
--- the tape was handed out in one turn, or the desk is spent
+-- one entry with this act, or none of a desk that is spent
+abbrev pub IsEntry : KeptAct → Result KeptAnswer ℕ → Seated → Seated → Type 0
+IsEntry act (Ok answer) old new = Enters old new act answer
+IsEntry act (Err number) old new = Keeps old new number
+
+-- what the tape handed out
 abbrev pub IsHand : List Told → Result HandedOut ℕ → Seated → Seated → Type 0
 IsHand empty (Ok handed) old new = Enters old new (Hand empty) (Handed handed)
 IsHand empty (Err number) old new = Keeps old new number
 
--- the tape was ended in one turn, or the desk is spent
+-- the tape was ended
 abbrev pub IsStop : Result (Unit {0}) ℕ → Seated → Seated → Type 0
 IsStop (Ok done) old new = Enters old new Stop Stopped
 IsStop (Err number) old new = Keeps old new number

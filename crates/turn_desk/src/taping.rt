@@ -7,7 +7,6 @@ use crate::answers::handed_in;
 use crate::desk::TurnDesk;
 use dom_base::List;
 use kept_plant::{Handed, KeptAct, Told};
-use plant_lock::Spent;
 use std::sync::Wait;
 use std::time::Clock;
 
@@ -18,15 +17,9 @@ impl<R: Wait + Clock> TurnDesk<R> {
         ensures stays { IsStill (stand_of self.old) (stand_of self.new) }
         ensures own { (stand_of self.new).own ≡ (stand_of self.old).own }
     {
-        if let Some(number) = self.spent_at {
-            return Err(number);
-        }
-        match self.lock.turn(&self.rt, &mut self.seat, KeptAct::Hand(empty)) {
-            Ok((_place, answer)) => Ok(handed_in(answer)),
-            Err(Spent(number)) => {
-                self.spent_at = Some(number);
-                Err(number)
-            }
+        match self.enter(KeptAct::Hand(empty)) {
+            Ok(answer) => Ok(handed_in(answer)),
+            Err(number) => Err(number),
         }
     }
 
@@ -36,15 +29,9 @@ impl<R: Wait + Clock> TurnDesk<R> {
         ensures stays { IsStill (stand_of self.old) (stand_of self.new) }
         ensures own { (stand_of self.new).own ≡ (stand_of self.old).own }
     {
-        if let Some(number) = self.spent_at {
-            return Err(number);
-        }
-        match self.lock.turn(&self.rt, &mut self.seat, KeptAct::Stop) {
-            Ok((_place, _answer)) => Ok(()),
-            Err(Spent(number)) => {
-                self.spent_at = Some(number);
-                Err(number)
-            }
+        match self.enter(KeptAct::Stop) {
+            Ok(_answer) => Ok(()),
+            Err(number) => Err(number),
         }
     }
 }

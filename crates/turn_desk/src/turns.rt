@@ -6,7 +6,7 @@ ghost use Rattle.plant_lock.specs.declared.turnstile.SplitError.TheVariants.{NoS
 ghost use Rattle.turn_desk.specs.Desks.{IsOpened, IsTurn, IsTurnTelling, shares_at, split_from, stand_at, stand_of};
 ghost use Rattle.turn_desk.specs.Histories.{Begins, NoneIsPending, plant_at};
 ghost use Rattle.turn_desk.specs.Opened.{IsOpenedSo};
-ghost use Rattle.turn_desk.specs.Seats.{seat_of};
+ghost use Rattle.turn_desk.specs.Seats.{IsEntry, seat_of, seated};
 ghost use Rattle.plant_network.specs.Topologies.{whole};
 ghost use Rattle.kept_plant.specs.declared.acts.KeptAct.TheVariants.{Turn};
 
@@ -15,7 +15,7 @@ use crate::bells::Bells;
 use crate::desk::TurnDesk;
 use dom_base::{As, NoMemory};
 use dom_edge::Bell;
-use kept_plant::{KeptAct, KeptPlant, Tape};
+use kept_plant::{KeptAct, KeptAnswer, KeptPlant, Tape};
 use plant_lock::{Spent, SplitError, TurnSeat, Turnstile};
 use plant_network::{Act, Acted, Plant, Rest, Stirred};
 use std::alloc::Global;
@@ -38,6 +38,7 @@ impl<R: Wait + Clock> TurnDesk<R> {
     pub fn new(rt: R, lock: Arc<Turnstile<KeptPlant>, Global>, seat: TurnSeat<KeptPlant>) -> Self
         requires here { IsAt (arc_value lock) seat }
         requires begun { Begins (plant_at (view_of seat).start) }
+        ensures seat { seat_of result ≡ seated seat None }
         ensures stand { stand_of result ≡ stand_at seat None }
         ensures shares { shares_at result ≡ shares_of seat }
     {
@@ -92,15 +93,26 @@ impl<R: Wait + Clock> TurnDesk<R> {
         requires { MayDo self.old.seat (Turn act) }
         ensures { IsTurnTelling act result (stand_of self.old) (stand_of self.new) }
     {
-        if let Some(number) = self.spent_at {
-            return Err(number);
-        }
-        match self.lock.turn(&self.rt, &mut self.seat, KeptAct::Turn(act)) {
-            Ok((_place, answer)) => {
+        match self.enter(KeptAct::Turn(act)) {
+            Ok(answer) => {
                 let turn = turned_in(answer);
                 self.ring(&turn.stirred, turn.rest);
                 Ok((turn.acted, turn.rest))
             }
+            Err(number) => Err(number),
+        }
+    }
+
+    // One turn with this act of whatever is kept at the lock, or the number at which the desk was spent.
+    pub(crate) fn enter(&mut self, act: KeptAct) -> Result<KeptAnswer, u64>
+        requires { MayDo self.old.seat act }
+        ensures { IsEntry act result (seat_of self.old) (seat_of self.new) }
+    {
+        if let Some(number) = self.spent_at {
+            return Err(number);
+        }
+        match self.lock.turn(&self.rt, &mut self.seat, act) {
+            Ok((_place, answer)) => Ok(answer),
             Err(Spent(number)) => {
                 self.spent_at = Some(number);
                 Err(number)
@@ -136,11 +148,29 @@ impl<R: Wait + Clock + Drop> TurnDesk<R> {
         ensures shares { IfOk result (λ desk. shares_at desk ≡ seats) }
     {
         let bells = Arc::new(alloc, Bells::new(alloc)?)?;
-        let (lock, seat) = Turnstile::open(alloc, KeptPlant::new(alloc, plant, tape), seats)?;
-        let lock = Arc::new(alloc, lock)?;
-        let mut desk = TurnDesk::new(rt, lock, seat);
+        let mut desk = TurnDesk::open_silent(rt, alloc, plant, tape, seats)?;
         desk.bells = Some(bells);
         Ok(desk)
+    }
+
+    // The same without a board.
+    fn open_silent(
+        rt: R,
+        alloc: Global,
+        plant: Plant,
+        tape: Tape,
+        seats: u32,
+    ) -> Result<Self, NoMemory>
+        requires seats { 0 < seats }
+        requires begun { NoneIsPending (whole plant).state }
+        ensures stand { IfOk result (λ desk. IsOpened plant (stand_of desk)) }
+        ensures tape { IfOk result (λ desk. IsOpenedSo tape (seat_of desk)) }
+        ensures shares { IfOk result (λ desk. shares_at desk ≡ seats) }
+    {
+        let kept = KeptPlant::new(alloc, plant, tape);
+        let (lock, seat) = Turnstile::open(alloc, kept, seats)?;
+        let lock = Arc::new(alloc, lock)?;
+        Ok(TurnDesk::new(rt, lock, seat))
     }
 
     /// A further desk over the same lock and the same board, which has seen as much and has made no turn. It has one share, which this desk gives
