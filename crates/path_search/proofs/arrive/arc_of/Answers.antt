@@ -1,8 +1,7 @@
-use Rattle.std.proofs.Common.{◌≡◌, ◌<◌, ℕ, List, length, get_or, inl, inr, true, false, refl, sym, subst, Some}
+use Rattle.std.proofs.Common.{◌≡◌, ◌<◌, ℕ, List, length, get_or, true, false, refl, sym, subst, Some}
 use Rattle.std.specs.Prelude.{slice_get}
 use Rattle.std.proofs.lemmas.Option.{slice_get-get_or}
 use Rattle.dom_base.specs.declared.link.Link.{Link}
-use Rattle.dom_base.specs.Admission.{Allows}
 use Rattle.te_links.specs.Rows.{Rows}
 use Rattle.te_links.specs.Arrivals.{Arrived, AreArrivals}
 use Rattle.path_search.proofs.Certified.{among_at}

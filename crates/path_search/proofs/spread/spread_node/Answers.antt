@@ -1,11 +1,9 @@
 use Rattle.std.proofs.Common.{◌≡◌, ◌+◌, ◌<◌, ◌≤◌, length, slice_index_or, refl, sym, ◌∙◌, subst, arith}
 use Rattle.std.proofs.lemmas.List.{get_or_default}
-use Rattle.std.specs.declared.option.Option.{Option}
-use Rattle.dom_base.specs.declared.query.Label.{Label}
 use Rattle.te_links.specs.Rows.{Rows, IsTopology}
 use Rattle.te_links.specs.Arrivals.{AreArrivals}
 use Rattle.path_search.specs.Asked.{IsAsked}
-use Rattle.path_search.specs.Reading.{IsOpened, IsResting, SpreadsNode}
+use Rattle.path_search.specs.Reading.{SpreadsNode}
 use Rattle.path_search.proofs.ReadLinks.{spread_first, spread_step, spread_last}
 use Rattle.path_search.proofs.spread.spread_node.Goals as goal
 
