@@ -8,10 +8,8 @@ use Rattle.plant_network.specs.plant_model.Types.{As, NoMemory, Ask}
 use Rattle.plant_network.specs.network_links.declared.rest.Rest.{Rest}
 use Rattle.plant_network.specs.network_links.declared.rest.Rest.TheVariants.{Nothing}
 use Rattle.te_links.specs.Rows.{Rows}
-use Rattle.atomic_table.specs.Seated.{TableId}
-use Rattle.plant_lock.specs.declared.view.View.{View}
 use Rattle.plant_lock.specs.History.{Admitted, Legal, entries_at, replay}
-use Rattle.plant_lock.specs.Views.{Adds, LegalFrom}
+use Rattle.plant_lock.specs.Views.{LegalFrom}
 use Rattle.plant_lock.proofs.Lists.{legal_front}
 use Rattle.plant_lock.proofs.Turns.{last_allowed}
 use Rattle.plant_network.specs.plant_model.declared.event.Event.{Event}
@@ -42,7 +40,6 @@ use Rattle.plant_network.specs.pce_parent.declared.work.Work.{Work}
 use Rattle.plant_network.specs.pce_parent.declared.work.Work.TheVariants as work
 use Rattle.server_loops.specs.Desks as desk
 use Rattle.server_loops.specs.Desks.{Answer, Goes, GoesTelling, call_telling}
-use Rattle.server_loops.specs.declared.desks.DeskRefused.{DeskRefused}
 use Rattle.server_loops.specs.declared.desks.DeskRefused.TheVariants.{Plant, Spent}
 use Rattle.server_loops.specs.Benches as bench
 use Rattle.turn_desk.specs.Desks.{IsAtLock, IsDone, IsOneTurn, IsOpened, IsStill, IsTaken, IsTurn, IsTurnBy, IsTurnTelling, Makes, Rests, Stand, bench_call, benched_of, desk_call, desked_of, did_as, did_by, taken_as, told_of}
@@ -321,9 +318,6 @@ looks_given old new d k (Ok None) t begun = tt
 looks_given old new d k (Err why) t begun = tt
 
 -- ---- what a finish is warranted by
-
-abbrev Warranted : Act → ActAnswer → Act → Type 0
-Warranted act turn next = Warrants act turn.acted next
 
 solved_by : (job : Work) (x : Done) → bench.IsOf x job → IsSolvedBy job x
 solved_by (work.Domain j) (done.Domain x) is = is
