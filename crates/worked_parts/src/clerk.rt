@@ -157,7 +157,7 @@ impl Clerk {
 impl Sited for Clerk {
     ghost Site = { Unit {0} };
 
-    ghost site = { λ d. tt };
+    ghost is_at = { λ _ _. Unit {0} };
 }
 
 impl Desk for Clerk {

@@ -114,7 +114,7 @@ impl Script {
 impl Sited for Script {
     ghost Site = { Unit {0} };
 
-    ghost site = { λ d. tt };
+    ghost is_at = { λ _ _. Unit {0} };
 }
 
 impl Chart for Script {
