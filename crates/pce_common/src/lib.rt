@@ -26,5 +26,5 @@ pub use peers::is_same_peer;
 pub use plant_model as model;
 pub use refusal::Refusal;
 pub use reported::{error_answer, has_pair};
-pub use rounds::{AskedJob, Behind, next_of};
+pub use rounds::{AskedJob, Behind, Solvable, next_job};
 pub use ways::{Way, Ways};

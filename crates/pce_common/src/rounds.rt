@@ -1,9 +1,10 @@
 //! Which job of a member is next: jobs stand in the order of those who asked, and those of one asker in the order of their numbers.
-ghost use Rattle.std.specs.Prelude.{◌≡◌, ◌↔◌, ◌++◌, ◌∷◌, [], List, IsTrue};
-ghost use Rattle.pce_common.specs.Rounds.{IsBehind, IsNext, Precedes, place_of};
+ghost use Rattle.std.specs.Prelude.{◌≡◌, ◌↔◌, ◌++◌, ◌∷◌, [], Bool, List, IsTrue};
+ghost use Rattle.pce_common.specs.Rounds.{IsBehind, IsNext, Precedes, jobs_by, place_of};
 ghost use Rattle.pce_common.specs.declared.rounds.AskedJob.{AskedJob as Asked};
 
 use dom_base::Peer;
+use request_table::Requests;
 
 /// A job that can be solved: who asked for it, and the number of its request.
 #[derive(Clone, Copy)]
@@ -51,7 +52,7 @@ fn is_behind(behind: Behind, job: AskedJob) -> bool
 }
 
 /// The next of some jobs and one more, where `best` is the next of those alone.
-pub fn next_of(behind: Behind, best: Option<AskedJob>, job: AskedJob) -> Option<AskedJob>
+fn next_of(behind: Behind, best: Option<AskedJob>, job: AskedJob) -> Option<AskedJob>
     ensures { (jobs : List Asked) → IsNext behind jobs best → IsNext behind (jobs ++ job ∷ []) result }
 {
     if !is_behind(behind, job) {
@@ -65,4 +66,34 @@ pub fn next_of(behind: Behind, best: Option<AskedJob>, job: AskedJob) -> Option<
     } else {
         best
     }
+}
+
+/// What belongs to a pending request, which can be solved at some time.
+pub trait Solvable: Drop {
+    // Whether it can be solved, as a contract tests it.
+    ghost solvable: { Self → Bool };
+
+    /// Whether it can be solved.
+    fn is_ready(&self) -> bool
+        ensures { result ≡ solvable self.now };
+}
+
+/// The next request that can be solved, in the order of those who asked and then of the numbers; takes no memory.
+pub fn next_job<T: Solvable>(requests: &Requests<T>, behind: Behind) -> Option<AskedJob>
+    ensures { IsNext behind (jobs_by T.solvable requests.now.kept.rows) result }
+{
+    let mut next = None;
+    for i in 0..requests.len() {
+        let Some((number, held)) = requests.row(i) else {
+            unreachable!()
+        };
+        if held.item.is_ready() {
+            let job = AskedJob {
+                asker: held.key.peer,
+                number,
+            };
+            next = next_of(behind, next, job);
+        }
+    }
+    next
 }

@@ -1,13 +1,13 @@
 //! A request that was accepted.
 ghost use Rattle.std.specs.Prelude.{◌≡◌, None, Some};
 ghost use Rattle.std.specs.Option.{option_copied};
-ghost use Rattle.pce_common.specs.plant_model.Element.{Ready, at_stage, is_ready, waits_for, waits_on};
+ghost use Rattle.pce_common.specs.plant_model.Element.{Ready, at_stage, waits_for, waits_on};
 ghost use Rattle.request_table.specs.Pending.{same_peer};
 ghost use Rattle.pce_element.specs.Items.{branches_at, new_item};
 
 use disclosure::Class;
 use dom_base::{As, List, Peer};
-use pce_common::is_same_peer;
+use pce_common::{Solvable, is_same_peer};
 use pcep_messages::Wanted;
 use std::marker::Model;
 use vspt_tree::Branch;
@@ -117,16 +117,6 @@ impl<P: Drop> Accepted<P> {
         }
     }
 
-    /// Whether it can be solved.
-    pub fn is_ready(&self) -> bool
-        ensures { result ≡ is_ready self.now.stage }
-    {
-        match self.opening.stage {
-            Stage::Waits { .. } => false,
-            Stage::Ready(_) => true,
-        }
-    }
-
     /// The branches with which it is ready, where it is.
     pub fn ready(&self) -> Option<&List<Branch>>
         ensures { option_copied result ≡ branches_at self.now.stage }
@@ -142,5 +132,18 @@ impl<P: Drop> Accepted<P> {
         ensures { self.new ≡ at_stage (Ready branches) self.old }
     {
         self.opening.stage = Stage::Ready(branches);
+    }
+}
+
+impl<P: Drop> Solvable for Accepted<P> {
+    ghost use Rattle.pce_common.specs.Rounds.{is_solvable};
+
+    ghost solvable = { is_solvable };
+
+    fn is_ready(&self) -> bool {
+        match self.opening.stage {
+            Stage::Waits { .. } => false,
+            Stage::Ready(_) => true,
+        }
     }
 }

@@ -13,7 +13,7 @@ use crate::accepted::{Accepted, Opening};
 use crate::world::World;
 use dom_base::{As, List, NoMemory, Peer};
 use pce_common::model::Lost;
-use pce_common::{AskedJob, Behind, is_same_peer, next_of};
+use pce_common::{AskedJob, Behind, Solvable, is_same_peer, next_job};
 use request_table::{PENDING_MAX, RequestKey, Requests};
 use std::alloc::Global;
 use std::marker::Model;
@@ -105,16 +105,7 @@ impl<W: World> PinnedRequests<W> {
     pub fn owed(&self, peer: Peer) -> usize
         ensures { result ≡ length (filter (λ h. same_peer h.1.key.peer peer) self.now.pending.rows) }
     {
-        let mut count = 0;
-        for i in 0..self.len() {
-            let Some(row) = self.row(i) else {
-                unreachable!()
-            };
-            if is_same_peer(row.key.peer, peer) {
-                count += 1;
-            }
-        }
-        count
+        self.requests.asked_by(peer)
     }
 
     /// The number of the request of a peer under an id.
@@ -232,20 +223,7 @@ impl<W: World> PinnedRequests<W> {
     pub fn next_job(&self, behind: Behind) -> Option<AskedJob>
         ensures { IsNext behind (jobs_by is_solvable self.now.pending.rows) result }
     {
-        let mut next = None;
-        for i in 0..self.len() {
-            let Some(row) = self.row(i) else {
-                unreachable!()
-            };
-            if row.item.is_ready() {
-                let job = AskedJob {
-                    asker: row.key.peer,
-                    number: row.number,
-                };
-                next = next_of(behind, next, job);
-            }
-        }
-        next
+        next_job(&self.requests, behind)
     }
 
     /// Makes a request ready with the branches of its answer; takes no memory.

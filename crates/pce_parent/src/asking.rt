@@ -1,6 +1,6 @@
 //! A request that the parent accepted, and what it waits for.
 ghost use Rattle.std.specs.Prelude.{◌≡◌, [], true, false, IfOk, MatchOption};
-ghost use Rattle.pce_common.specs.plant_model.Parent.{among, is_ready};
+ghost use Rattle.pce_common.specs.plant_model.Parent.{among};
 ghost use Rattle.pce_parent.specs.Changes.{with_answer};
 ghost use Rattle.pce_parent.specs.Answered.{IsAnsweredAt, Answers};
 ghost use Rattle.pce_parent.specs.Joined.{joined};
@@ -8,6 +8,7 @@ ghost use Rattle.pce_parent.specs.Joined.{joined};
 use crate::copies::append_rows;
 use crate::wait::Wait;
 use dom_base::{List, NoMemory, Peer};
+use pce_common::Solvable;
 use pce_common::model::ChildRow;
 use pcep_messages::Wanted;
 use std::alloc::Global;
@@ -82,13 +83,6 @@ impl Asking {
         copy_answers(alloc, &self.answers)
     }
 
-    /// Whether it can be solved.
-    pub fn is_ready(&self) -> bool
-        ensures { result ≡ is_ready self.now }
-    {
-        self.waits.is_empty()
-    }
-
     /// The wait for the answer to an id of a peer.
     pub fn wait(&self, peer: Peer, id: u32) -> Option<Wait>
         ensures { MatchOption result (among peer self.now.waits id ≡ false) (λ wait. Answers peer id wait self.now.waits) }
@@ -135,4 +129,14 @@ fn copy_answers(alloc: Global, answers: &[List<ChildRow>]) -> Result<List<ChildR
         append_rows(alloc, &mut rows, answer.as_slice())?;
     }
     Ok(rows)
+}
+
+impl Solvable for Asking {
+    ghost use Rattle.pce_common.specs.plant_model.Parent.{is_ready};
+
+    ghost solvable = { is_ready };
+
+    fn is_ready(&self) -> bool {
+        self.waits.is_empty()
+    }
 }

@@ -12,7 +12,7 @@ use crate::plan::BorderPlan;
 use crate::solved::BorderSolved;
 use dom_base::{List, Metric, NoMemory, Tick, word_of_cost};
 use pce_common::model::{Output, Outputs, Refused};
-use pce_common::{Refusal, no_path, one, reply_message};
+use pce_common::{Refusal, Solvable, no_path, one, reply_message};
 use pcep_messages::{Answer, Path, type_of_metric};
 use pcep_subobjects::append_hops;
 use std::alloc::Global;

@@ -11,10 +11,10 @@ ghost use Rattle.pce_parent.specs.Solution.{IsWeighed};
 
 use crate::asking::Asking;
 use crate::copies::copy_links;
-use crate::pending::{leave_all, next_at, owed, ready_at};
+use crate::pending::{leave_all, ready_at};
 use dom_base::{Addr, As, List, NoMemory, ParentLink, Peer};
 use pce_common::model::{BorderJob, Lost, PARENT_PENDING_MAX};
-use pce_common::{AskedJob, Behind, Ways};
+use pce_common::{AskedJob, Behind, Solvable, Ways, next_job};
 use request_table::Requests;
 use std::alloc::Global;
 use std::collections::VecDeque;
@@ -116,7 +116,7 @@ impl Parent {
     pub fn owed(&self, peer: Peer) -> usize
         ensures { result ≡ length (filter (λ h. same_peer h.1.key.peer peer) self.now.losing.parent.pending.rows) }
     {
-        owed(&self.requests, peer)
+        self.requests.asked_by(peer)
     }
 
     /// The number of the k-th request that can be solved; takes no memory.
@@ -130,7 +130,7 @@ impl Parent {
     pub fn next_job(&self, behind: Behind) -> Option<AskedJob>
         ensures { IsNext behind (jobs_by is_ready self.now.losing.parent.pending.rows) result }
     {
-        next_at(&self.requests, behind)
+        next_job(&self.requests, behind)
     }
 
     /// The job of a request that can be solved.

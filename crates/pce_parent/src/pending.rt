@@ -1,9 +1,8 @@
 //! The pending requests of the parent, one by one.
-ghost use Rattle.std.specs.Prelude.{◌≡◌, ◌≤◌, ◌<◌, ◌+◌, ◌++◌, ◌∷◌, [], filter, length, slice_get, Some, MatchOption};
+ghost use Rattle.std.specs.Prelude.{◌≡◌, ◌≤◌, ◌<◌, ◌+◌, ◌++◌, ◌∷◌, [], length, slice_get, Some, MatchOption};
 ghost use Rattle.std.specs.VecDeque.{deque_capacity, deque_len};
-ghost use Rattle.request_table.specs.Pending.{ArePending, closed_of, item_of, same_peer};
-ghost use Rattle.pce_common.specs.plant_model.Parent.{is_ready, kept, lost, ready_numbers};
-ghost use Rattle.pce_common.specs.Rounds.{IsNext, jobs_by};
+ghost use Rattle.request_table.specs.Pending.{ArePending, closed_of, item_of};
+ghost use Rattle.pce_common.specs.plant_model.Parent.{kept, lost, ready_numbers};
 ghost use Rattle.pce_parent.specs.Pendings.{Leaves, row_of, with_rows};
 ghost use Rattle.pce_parent.specs.Changes.{Waits, all_closed, answered_at};
 
@@ -11,7 +10,7 @@ use crate::asking::Asking;
 use crate::wait::waits_on;
 use dom_base::{List, Peer};
 use pce_common::model::{ChildRow, Lost};
-use pce_common::{AskedJob, Behind, is_same_peer, next_of};
+use pce_common::{Solvable, is_same_peer};
 use request_table::{RequestKey, Requests};
 use std::collections::VecDeque;
 
@@ -39,22 +38,6 @@ pub fn row_at(requests: &Requests<Asking>, k: usize) -> Option<Row<'_>>
     })
 }
 
-/// How many requests of a peer are pending.
-pub fn owed(requests: &Requests<Asking>, peer: Peer) -> usize
-    ensures { result ≡ length (filter (λ h. same_peer h.1.key.peer peer) requests.now.kept.rows) }
-{
-    let mut count = 0;
-    for i in 0..requests.len() {
-        let Some(row) = row_at(requests, i) else {
-            unreachable!()
-        };
-        if is_same_peer(row.key.peer, peer) {
-            count += 1;
-        }
-    }
-    count
-}
-
 /// The number of the k-th request that can be solved.
 pub fn ready_at(requests: &Requests<Asking>, k: usize) -> Option<u64>
     ensures { result ≡ slice_get (ready_numbers requests.now.kept.rows) k }
@@ -72,26 +55,6 @@ pub fn ready_at(requests: &Requests<Asking>, k: usize) -> Option<u64>
         }
     }
     None
-}
-
-/// The next request that can be solved, in the order of those who asked and then of the numbers.
-pub fn next_at(requests: &Requests<Asking>, behind: Behind) -> Option<AskedJob>
-    ensures { IsNext behind (jobs_by is_ready requests.now.kept.rows) result }
-{
-    let mut next = None;
-    for i in 0..requests.len() {
-        let Some(row) = row_at(requests, i) else {
-            unreachable!()
-        };
-        if row.item.is_ready() {
-            let job = AskedJob {
-                asker: row.key.peer,
-                number: row.number,
-            };
-            next = next_of(behind, next, job);
-        }
-    }
-    next
 }
 
 // There is memory for it.
