@@ -1,6 +1,5 @@
 -- The octets of items, one behind the other, are counted.
 use Rattle.std.proofs.Common.{◌≡◌, ◌∙◌, ◌+◌, ◌^◌, ◌<◌, ◌≤◌, ◌&&◌, ℕ, Bool, true, false, List, [], ◌∷◌, ◌++◌, map, Some, ap, arith, leb, ltb, leb-true, ltb-true, length, length-append, refl, subst, sym}
-use Rattle.plant_model.specs.declared.event.Event.{Event}
 use Rattle.event_tape.specs.Counting.{IsRoom}
 use Rattle.event_tape.specs.Tapes.{Taped, event_of, octets_in, octets_of, tape_room}
 use Rattle.event_tape.specs.declared.told.Told.{Told}
