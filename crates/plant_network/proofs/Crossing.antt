@@ -6,8 +6,12 @@ use Rattle.dom_base.specs.contracts.addr.Addr as Addr
 use Rattle.dom_base.specs.contracts.list.List as List
 use Rattle.border_costs.specs.contracts.solved.Solved as Solved
 use Rattle.te_generations.specs.contracts.generations.Generations as Generations
+use Rattle.request_table.specs.contracts.held.Held as Held
+use Rattle.request_table.specs.contracts.requests.Requests as Requests
+use Rattle.request_table.specs.contracts.rows.Rows as Rows
 use Rattle.network_events.specs.plant_model.contracts.event.Event as Event
 use Rattle.network_members.specs.pce_element.contracts.accepted.Accepted as Accepted
+use Rattle.network_members.specs.pce_element.contracts.element.Element as Element
 use Rattle.network_members.specs.pce_element.contracts.topologies.PinnedTopology as PinnedTopology
 use Rattle.network_members.specs.pce_element.contracts.topologies.Topologies as Topologies
 use Rattle.network_members.specs.pce_element.contracts.topologies.TopologiesWorld.TheImpl as TopologiesWorld
@@ -52,8 +56,17 @@ accepted_send = search (pinned_topology_send, sendable, crosses) depth 60 fits 3
 abbrev segment : RattleType
 segment = List.the_row Addr.the_row
 
+rows_send : IsSend (Rows.the_row (Held.the_row (Accepted.the_row PinnedTopology.the_row)))
+rows_send = search (accepted_send, sendable, crosses) depth 60 fits 30000
+
+requests_send : IsSend (Requests.the_row (Accepted.the_row PinnedTopology.the_row))
+requests_send = search (rows_send, sendable, crosses) depth 60 fits 30000
+
+element_send : IsSend (Element.the_row Topologies.the_row PinnedTopology.the_row segment Solved.the_row TopologiesWorld.ghosts)
+element_send = search (topologies_send, requests_send, sendable, crosses) depth 90 fits 60000
+
 elements_send : IsSend (Elements.the_row Topologies.the_row PinnedTopology.the_row segment Solved.the_row TopologiesWorld.ghosts)
-elements_send = search (topologies_send, accepted_send, sendable, crosses) depth 90 fits 60000
+elements_send = search (element_send, sendable, crosses) depth 90 fits 60000
 
 hierarchy_send : IsSend (Hierarchy.the_row Topologies.the_row PinnedTopology.the_row segment Solved.the_row TopologiesWorld.ghosts)
 hierarchy_send = search (network_send, elements_send, parent_send, sendable, crosses) depth 60 fits 30000

@@ -1,8 +1,9 @@
 use Rattle.std.proofs.Common.{◌≡◌, inl, inr}
+use Rattle.std.proofs.lemmas.Result.{err_from_is_err_and}
 use Rattle.server_loops.specs.Benches.{Goes, Finish}
 use Rattle.server_loops.specs.declared.benches.Finished.TheVariants.{Kept as Taken, Stranger, NoMemory as NoRoom}
 use Rattle.server_loops.proofs.Righting.{can_solve}
-use Rattle.server_loops.proofs.WorkerTurning.{handed_back}
+use Rattle.server_loops.proofs.WorkerTurning.{handed_back, unsolved}
 use Rattle.server_loops.proofs.worker_turn.finish.Goals as goal
 
 pub solve-requires : goal.solve-requires
@@ -24,3 +25,8 @@ returns-in-Kept-clause-finished g c =
           handed_back c.args.work.now old new c.args.cache.now c.solve.new.cache done Stranger c.in_ok-done.ensures.of (λ is. let no : Stranger ≡ NoRoom = is in cc) goes
           c.in_ok-done.ensures.holds right
     ]
+
+pub returns-in_err-done-clause-finished : goal.returns-in_err-done-clause-finished
+returns-in_err-done-clause-finished g c =
+    let p = err_from_is_err_and c.from_residual.result c.from_residual.ensures.1 in
+    rw p.1 (unsolved c.args.work.now (g.B.Bench.benched c.args.bench.now) c.args.cache.now c.solve.new.cache p.0 c.requires.live)
