@@ -10,14 +10,15 @@ use Rattle.std.specs.List.{AllByRecursion, list_all, position_or_len}
 use Rattle.std.specs.Str.{bytes_eq}
 use Rattle.line_text.specs.Spelling.{IsWord}
 use Rattle.plant_text.specs.declared.fault.Breach.{Breach}
-use Rattle.plant_text.specs.declared.fault.Breach.TheVariants.{TooMany, Shape}
+use Rattle.plant_text.specs.declared.fault.Breach.TheVariants.{TooMany, Shape, Duplicate, Unknown}
 use Rattle.plant_text.specs.declared.fault.NetFault.{NetFault}
 use Rattle.plant_text.specs.declared.settings.NetworkParts.{NetworkParts}
 use Rattle.plant_text.specs.declared.settings.PeerRow.{PeerRow}
 use Rattle.plant_text.specs.Faults.{AreObeyed, first_of}
 use Rattle.plant_text.specs.Laws.{AreSettings}
 use Rattle.plant_text.specs.Lines.{peer_in}
-use Rattle.plant_text.specs.Rules.{Rules, at_row, is_digit, is_letter, is_class, is_name, leads_out, peer_form, peer_rules, rows_from, rules_of, sheet_of, told}
+use Rattle.plant_text.specs.Settings.{is_element}
+use Rattle.plant_text.specs.Rules.{Rules, at_row, is_digit, is_letter, is_class, is_name, leads_out, peer_form, peer_rules, repeats_peer, rows_from, rules_of, sheet_of, told}
 use Rattle.plant_text.proofs.RuleLaws.{first_at_row, none_front, none_back, none_of}
 use Rattle.plant_text.proofs.SettingLaws.{rules_are_worth}
 use Rattle.plant_text.proofs.SheetLaws.{all_clear}
@@ -40,7 +41,7 @@ all_printed (c ∷ name) is =
 name_word : (name : List ℕ) → is_name name ≡ true → IsWord name
 name_word [] is = absurd (cc)
 name_word (c ∷ name) is =
-    let whole = and_parts (is_letter c && list_all (λ d. is_letter d || is_digit d) name) (nat_le (length (c ∷ name)) 64) is in
+    let whole = and_parts (is_letter c && list_all (λ d. is_letter d || is_digit d) name) (nat_le (length (c ∷ name)) 16) is in
     let parts = and_parts (is_letter c) (list_all (λ d. is_letter d || is_digit d) name) whole.0 in
     record { some = omega arith; bytes = (letter_printed c parts.0, all_printed name parts.1) }
 
@@ -65,7 +66,7 @@ row_clear table i ((false, x) ∷ rs) none = row_clear table i rs none
 
 form_of : (n : NetworkParts) (before : List PeerRow) (p : PeerRow) → first_of (peer_rules (sheet_of n) before p) ≡ None → is_name p.name ≡ true
 form_of n before p none =
-    let form : peer_form p ≡ true = not_false (peer_form p) (first_holds_not (not (peer_form p)) Shape _ none) in
+    let form : peer_form p ≡ true = not_false (peer_form p) (first_holds_not (not (peer_form p)) Shape ((repeats_peer (sheet_of n) before p, Duplicate) ∷ (not (is_element n p.at), Unknown) ∷ []) none) in
     let named = (and_parts ((is_name p.name && is_class p.class) && nat_lt 0 p.port) (not p.down || leads_out p.class) form).0 in
     (and_parts (is_name p.name) (is_class p.class) (and_parts (is_name p.name && is_class p.class) (nat_lt 0 p.port) named).0).0
 
