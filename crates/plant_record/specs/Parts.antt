@@ -1,5 +1,5 @@
 -- The parts of a script that is recorded, and their texts.
-use Rattle.std.specs.Prelude.{ℕ, ◌+◌, ◌-◌, List, [], ◌∷◌, ◌++◌, length, replicate, codes, decimal}
+use Rattle.std.specs.Prelude.{ℕ, ◌+◌, ◌-◌, List, [], ◌∷◌, ◌++◌, length, replicate, codes, decimal, Option, Some, None}
 use Rattle.std.specs.Arc.{arc_value}
 use Rattle.te_links.specs.Rows.{Rows}
 use Rattle.plant_text.specs.declared.settings.PeerRow.{PeerRow}
@@ -85,3 +85,8 @@ reason Stopped = codes "stop"
 -- `# end of record: WHY`
 abbrev pub end_line : TapeEnd → List ℕ
 end_line why = codes "# end of record: " ++ reason why ++ 10 ∷ []
+
+-- what stands behind the lines of the last part: its last line, where the tape ended
+abbrev pub tail_by : Option TapeEnd → List ℕ
+tail_by None = []
+tail_by (Some why) = end_line why

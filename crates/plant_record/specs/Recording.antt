@@ -6,7 +6,7 @@ use Rattle.plant_text.specs.declared.settings.PeerRow.{PeerRow}
 use Rattle.event_tape.specs.declared.told.Told.{Told}
 use Rattle.event_tape.specs.declared.tape.Handed.{Handed}
 use Rattle.event_tape.specs.declared.tape.TapeEnd.{TapeEnd}
-use Rattle.plant_record.specs.Parts.{Title, topologies, part_text, part_name, end_line}
+use Rattle.plant_record.specs.Parts.{Title, topologies, part_text, part_name, tail_by}
 use Rattle.plant_record.specs.Books.{BeginsWith, Deed, File, IsBook, files, kept, next_part, part_count, told_in}
 use Rattle.plant_record.specs.Standing.{Breaks, IsCut, ScriptState, Stands}
 use Rattle.plant_record.specs.Faults.{HasReason}
@@ -26,11 +26,6 @@ pub record Begins {F : Type 0} (written : F → Option (List ℕ)) (peers : List
   pub stands : Stands written peers title [] s c
 
 -- ---- the end
-
--- what stands behind the lines of the last part: a last line where the tape ended
-abbrev pub tail_by : Option TapeEnd → List ℕ
-tail_by None = []
-tail_by (Some why) = end_line why
 
 -- All events are told, the last of them in a last part, which ends so.
 pub record IsWhole (peers : List PeerRow) (t : Title) (told : List Told) (ended : Option TapeEnd) (c : Option Contents) : Type 0 where

@@ -1,10 +1,14 @@
 -- Where a record stands between two events, and behind a fault.
-use Rattle.std.specs.Prelude.{◌≡◌, ◌⊎◌, ℕ, ◌+◌, List, [], ◌∷◌, ◌++◌, length, Option, Some, None, MatchResult}
+use Rattle.std.specs.Prelude.{◌≡◌, ◌⊎◌, ℕ, ◌+◌, List, [], ◌∷◌, ◌++◌, length, Option, Some, None, MatchResult, is_ok, false}
 use Rattle.std.specs.declared.result.Result.{Result}
-use Rattle.dom_edge.specs.Folders.{Contents}
+use Rattle.std.specs.Io.KnownBytes.{Appends}
+use Rattle.dom_edge.specs.Folders.{Contents, Closes}
+use Rattle.dom_edge.specs.Whole.{AppendsSome}
+use Rattle.dom_edge.specs.declared.folder.FolderError.{FolderError}
 use Rattle.plant_text.specs.declared.settings.PeerRow.{PeerRow}
 use Rattle.event_tape.specs.declared.told.Told.{Told}
-use Rattle.plant_record.specs.Parts.{Title, topologies, load_count, last_tick, part_text}
+use Rattle.event_tape.specs.declared.tape.TapeEnd.{TapeEnd}
+use Rattle.plant_record.specs.Parts.{Title, part_name, topologies, load_count, last_tick, part_text, tail_by}
 use Rattle.plant_record.specs.Books.{BeginsWith, Deed, IsBook, files, kept, next_part, part_count, told_in}
 use Rattle.plant_record.specs.declared.fault.Fault.{Fault}
 
@@ -46,6 +50,7 @@ pub record IsBetween {F : Type 0} (peers : List PeerRow) (t : Title) (told : Lis
   pub is_kept : IsKept peers t book c
   pub topologies_are : kept book ≡ topologies told
   pub is : told ≡ told_in book
+  pub none : s.file ≡ None
   pub counted : HasCounted t (part_count book) told s
 
 -- A part is open: what was written to it and what waits are its text, and what was told are the events of the book and its own.
@@ -61,13 +66,14 @@ pub record Stands {F : Type 0} (written : F → Option (List ℕ)) (peers : List
   pub written_is : written_in written s.file ≡ Some bytes
   pub text : bytes ++ s.pending ≡ part_text peers t (next_part book moment events)
 
--- Some first of these events are told, and the last part is cut off somewhere, if it is there.
+-- Some first of these events are told, the last of them in a part that is cut off somewhere, behind its last line at the latest.
 pub record IsCut (peers : List PeerRow) (t : Title) (told : List Told) (book : List Deed) (bytes : List ℕ) : Type 0 where
   pub moment : List ℕ
   pub events : List Told
   pub first : BeginsWith told (told_in book ++ events)
   pub topologies_are : BeginsWith (kept book) (topologies (told_in book ++ events))
-  pub begins : BeginsWith (part_text peers t (next_part book moment events)) bytes
+  pub ended : Option TapeEnd
+  pub begins : BeginsWith (part_text peers t (next_part book moment events) ++ tail_by ended) bytes
 
 -- behind a fault: no part is open, or one that is cut off
 abbrev pub HasPart : {F : Type 0} → (F → Option (List ℕ)) → List PeerRow → Title → List Told → List Deed → Option F → ℕ → Type 0
@@ -82,3 +88,26 @@ pub record Breaks {F : Type 0} (written : F → Option (List ℕ)) (peers : List
 -- it goes on, or broke off
 abbrev pub After : {F : Type 0} → (F → Option (List ℕ)) → List PeerRow → Title → List Told → Result (Unit {0}) Fault → ScriptState F → Option Contents → Type 0
 After written peers t told result s c = MatchResult result (λ _. Stands written peers t told s c) (λ _. Breaks written peers t told s c)
+
+-- ---- the part that is open
+
+-- what waited was written, and nothing else is changed
+pub record IsFlushed {F : Type 0} (written : F → Option (List ℕ)) (old new : ScriptState F) : Type 0 where
+  pub added : Appends (written_in written old.file) (written_in written new.file) old.pending
+  pub others : new ≡ record old { file = new.file; pending = [] }
+
+-- some first part of it was written
+pub record IsCutOff {F : Type 0} (written : F → Option (List ℕ)) (old new : ScriptState F) : Type 0 where
+  pub some : AppendsSome (written_in written old.file) (written_in written new.file) old.pending
+  pub others : new ≡ record old { file = new.file }
+
+-- the file that is open, if one is, is closed under the name of its part
+abbrev pub ClosesFile : {F : Type 0} → (F → Option (List ℕ)) → Option F → ℕ → Result (Unit {0}) FolderError → Option Contents → Option Contents → Type 0
+ClosesFile written None number result c d = d ≡ c
+ClosesFile written (Some file) number result c d = Closes c d (part_name number) (written file) result
+
+-- then none is open; or it stays as it was
+abbrev pub ClosesPart : {F : Type 0} → (F → Option (List ℕ)) → Result (Unit {0}) Fault → ScriptState F → ScriptState F → Option Contents → Option Contents → Type 0
+ClosesPart written result old new c d =
+    ((answer : Result (Unit {0}) FolderError) × (is_ok answer ≡ is_ok result) × ClosesFile written old.file old.number answer c d × (new ≡ record old { file = None }))
+    ⊎ ((is_ok result ≡ false) × (d ≡ c) × (new ≡ old))

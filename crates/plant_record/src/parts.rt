@@ -1,10 +1,10 @@
 //! Parts are opened and closed.
-ghost use Rattle.std.specs.Prelude.{◌≡◌, ◌++◌, ◌∷◌, [], List, MatchResult, OnOk, codes, decimal};
+ghost use Rattle.std.specs.Prelude.{◌≡◌, ◌++◌, ◌∷◌, [], List, OnOk, codes, decimal};
 ghost use Rattle.plant_text.specs.declared.settings.PeerRow.{PeerRow};
 ghost use Rattle.event_tape.specs.declared.told.Told.{Told};
 ghost use Rattle.plant_record.specs.Faults.{IsJudged};
 ghost use Rattle.plant_record.specs.Parts.{Title};
-ghost use Rattle.plant_record.specs.Standing.{After, Breaks, IsBetween, Stands};
+ghost use Rattle.plant_record.specs.Standing.{After, ClosesPart, IsBetween, Stands};
 
 use crate::fault::Fault;
 use crate::names::part_name;
@@ -82,8 +82,7 @@ pub(crate) fn close_part<F: Folder>(
     folder: &mut F,
     script: &mut Script<F::File>,
 ) -> Result<(), Fault>
-    ensures after { (peers : List PeerRow) (t : Title) (told : List Told) → script.old.pending ≡ [] → Stands F.File.written peers t told script.old (F.contents folder.old) →
-        MatchResult result (λ _. IsBetween peers t told script.new (F.contents folder.new)) (λ _. Breaks F.File.written peers t told script.new (F.contents folder.new)) }
+    ensures closes { ClosesPart F.File.written result script.old script.new (F.contents folder.old) (F.contents folder.new) }
     ensures judged { IsJudged F.File.faults (F.faults folder.old) (F.faults folder.new) result }
 {
     let name = part_name(alloc, script.number)?;

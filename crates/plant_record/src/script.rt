@@ -1,12 +1,7 @@
 //! A script that is written part by part: what is counted, and the part that is open.
-ghost use Rattle.std.specs.Prelude.{◌≡◌, ℕ, [], List, None, OnOk};
-ghost use Rattle.std.specs.declared.option.Option.{Option};
-ghost use Rattle.dom_edge.specs.Folders.{Contents};
-ghost use Rattle.plant_text.specs.declared.settings.PeerRow.{PeerRow};
-ghost use Rattle.event_tape.specs.declared.told.Told.{Told};
+ghost use Rattle.std.specs.Prelude.{◌≡◌, ℕ, [], None, OnErr, OnOk};
 ghost use Rattle.plant_record.specs.Faults.{IsJudged};
-ghost use Rattle.plant_record.specs.Parts.{Title};
-ghost use Rattle.plant_record.specs.Standing.{After, Stands};
+ghost use Rattle.plant_record.specs.Standing.{IsCutOff, IsFlushed};
 
 use crate::fault::Fault;
 use dom_base::Text;
@@ -75,8 +70,8 @@ impl<F: Sink + Drop> Script<F> {
 
     // Writes what waits.
     pub(crate) fn flush(&mut self) -> Result<(), Fault>
-        ensures after { (peers : List PeerRow) (t : Title) (told : List Told) (c : Option Contents) → Stands F.written peers t told self.old c → After F.written peers t told result self.new c }
-        ensures empty { OnOk result (self.new.pending ≡ []) }
+        ensures ok { OnOk result (IsFlushed F.written self.old self.new) }
+        ensures err { OnErr result (IsCutOff F.written self.old self.new) }
         ensures judged { (n : ℕ) → IsJudged F.faults n n result }
     {
         if let Some(file) = &mut self.file {

@@ -42,7 +42,7 @@ as = 1
 id = \"10.1.0.1\"
 [[peer]]
 name = \"c1\"
-at = 1
+as = 1
 class = \"client\"
 ";
 
