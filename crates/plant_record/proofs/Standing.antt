@@ -1,5 +1,6 @@
 -- A script goes on, or breaks off.
-use Rattle.std.proofs.Common.{◌≡◌, ℕ, ◌+◌, ◌≤◌, List, [], ◌∷◌, ◌++◌, length, take, drop, append_assoc, append-nil, codes, decimal, Option, Some, None, Result, Ok, Err, refl, sym, ap, subst, ◌∙◌, arith, length-append, take++drop}
+use Rattle.std.proofs.Common.{◌≡◌, ℕ, ◌+◌, ◌≤◌, List, [], ◌∷◌, ◌++◌, length, take, drop, append_assoc, append-nil, codes, decimal, Option, Some, None, Result, Ok, Err, refl, sym, ap, subst, ◌∙◌, arith, length-append}
+use Rattle.std.proofs.lemmas.List.{take-append-drop}
 use Rattle.std.specs.Io.KnownBytes.{Appends}
 use Rattle.dom_edge.specs.Folders.{Contents, Closes, Makes}
 use Rattle.dom_edge.specs.Whole.{AppendsSome}
@@ -7,6 +8,7 @@ use Rattle.dom_edge.specs.declared.folder.FolderError.{FolderError}
 use Rattle.te_links.specs.Rows.{Rows}
 use Rattle.plant_text.specs.declared.settings.PeerRow.{PeerRow}
 use Rattle.event_tape.specs.declared.told.Told.{Told}
+use Rattle.event_tape.specs.declared.tape.TapeEnd.{TapeEnd}
 use Rattle.event_lines.specs.EventLines.{event_line}
 use Rattle.plant_record.specs.Parts.{Title, Part, head_line, last_tick, lines_behind, load_count, loaded_by, part_name, part_text, tail_by, tick_after, topologies}
 use Rattle.plant_record.specs.Books.{Adds, BeginsWith, Deed, File, IsBook, Script, files, kept, load_files, next_part, part_count, told_in}
@@ -24,7 +26,7 @@ begins_more whole more part (rest, is) = (rest ++ more, ap (λ (xs : List _). xs
 
 -- ---- what is written to a file
 
-appended : (o p : Option (List ℕ)) (bytes more : List ℕ) → o ≡ Some bytes → Appends o p more → p ≡ Some (bytes ++ more)
+pub appended : (o p : Option (List ℕ)) (bytes more : List ℕ) → o ≡ Some bytes → Appends o p more → p ≡ Some (bytes ++ more)
 appended None p bytes more is adds = absurd (let no : None ≡ Some bytes = is in cc)
 appended (Some xs) None bytes more is adds = absurd adds
 appended (Some xs) (Some ys) bytes more is adds = let same : xs ≡ bytes = cc in ap (λ (zs : List ℕ). Some zs) (adds ∙ ap (λ (zs : List ℕ). zs ++ more) same)
@@ -42,9 +44,9 @@ module _ {F : Type 0} (written : F → Option (List ℕ)) (peers : List PeerRow)
   abbrev text_of : List Deed → List ℕ → List Told → List ℕ
   text_of book moment events = part_text peers t (next_part book moment events)
 
-  breaks_at : (told more : List Told) (s u : S) (c : Option Contents) (st : Stands written peers t told s c) → u.number ≡ s.number → (bytes : List ℕ) → written_in written u.file ≡ Some bytes
-      → BeginsWith (text_of st.book st.moment st.events) bytes → Breaks written peers t (told ++ more) u c
-  breaks_at told more s u c st number bytes is begins = record {
+  pub breaks_at : (told more : List Told) (s u : S) (c : Option Contents) (st : Stands written peers t told s c) → u.number ≡ s.number → (bytes : List ℕ) → written_in written u.file ≡ Some bytes
+      → (ended : Option TapeEnd) → BeginsWith (text_of st.book st.moment st.events ++ tail_by ended) bytes → Breaks written peers t (told ++ more) u c
+  breaks_at told more s u c st number bytes is ended begins = record {
     book = st.book;
     is_kept = st.is_kept;
     has_part =
@@ -54,13 +56,13 @@ module _ {F : Type 0} (written : F → Option (List ℕ)) (peers : List PeerRow)
           events = st.events;
           first = (more, ap (λ (es : List Told). es ++ more) st.is);
           topologies_are = subst (λ (gs : List Rows). BeginsWith gs (topologies (told_in st.book ++ st.events))) (sym (st.topologies_are ∙ ap topologies st.is)) (whole_begins (topologies (told_in st.book ++ st.events)));
-          ended = None;
-          begins = begins_more (text_of st.book st.moment st.events) [] bytes begins;
+          ended = ended;
+          begins = begins;
         });
   }
 
   pub stands_breaks : (told more : List Told) (s u : S) (c : Option Contents) → Stands written peers t told s c → u.file ≡ s.file → u.number ≡ s.number → Breaks written peers t (told ++ more) u c
-  stands_breaks told more s u c st file number = breaks_at told more s u c st number st.bytes (ap (written_in written) file ∙ st.written_is) (s.pending, sym st.text)
+  stands_breaks told more s u c st file number = breaks_at told more s u c st number st.bytes (ap (written_in written) file ∙ st.written_is) None (begins_more (text_of st.book st.moment st.events) [] st.bytes (s.pending, sym st.text))
 
   -- ---- what waited is written
 
@@ -78,14 +80,14 @@ module _ {F : Type 0} (written : F → Option (List ℕ)) (peers : List PeerRow)
     text = append-nil (st.bytes ++ s.pending) ∙ st.text;
   })
 
-  cut_begins : (text bytes pending : List ℕ) (k : ℕ) → bytes ++ pending ≡ text → BeginsWith text (bytes ++ take k pending)
-  cut_begins text bytes pending k is = (drop k pending, sym is ∙ ap (λ (xs : List ℕ). bytes ++ xs) (sym (take++drop k pending)) ∙ sym (append_assoc bytes (take k pending) (drop k pending)))
+  pub cut_begins : (text bytes pending : List ℕ) (k : ℕ) → bytes ++ pending ≡ text → BeginsWith text (bytes ++ take k pending)
+  cut_begins text bytes pending k is = (drop k pending, sym is ∙ ap (λ (xs : List ℕ). bytes ++ xs) (sym (take-append-drop k pending)) ∙ sym (append_assoc bytes (take k pending) (drop k pending)))
 
   pub cut_off : (told more : List Told) (s u : S) (c : Option Contents) → IsCutOff written s u → Stands written peers t told s c → Breaks written peers t (told ++ more) u c
   cut_off told more s u c is st =
       breaks_at told more s u c st (ap (λ (v : S). v.number) is.others) (st.bytes ++ take is.some.count s.pending)
       (appended (written_in written s.file) (written_in written u.file) st.bytes (take is.some.count s.pending) st.written_is is.some.added)
-      (cut_begins (text_of st.book st.moment st.events) st.bytes s.pending is.some.count st.text)
+      None (begins_more (text_of st.book st.moment st.events) [] (st.bytes ++ take is.some.count s.pending) (cut_begins (text_of st.book st.moment st.events) st.bytes s.pending is.some.count st.text))
 
   -- ---- one more event
 

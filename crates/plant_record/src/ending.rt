@@ -8,7 +8,7 @@ ghost use Rattle.plant_record.specs.Recording.{Concludes, IsEndBy, IsPart, IsWho
 ghost use Rattle.plant_record.specs.Standing.{Breaks, Stands};
 
 use crate::fault::Fault;
-use crate::names::{part_name, push_end};
+use crate::names::{part_name, push_tail};
 use crate::parts::close_part;
 use crate::recorded::Recorded;
 use crate::script::Script;
@@ -40,9 +40,7 @@ fn close_last<F: Folder>(
         MatchResult result (λ _. IsWhole peers t told ended (F.contents folder.new)) (λ _. Breaks F.File.written peers t told script.new (F.contents folder.new)) }
     ensures judged { IsJudged F.File.faults (F.faults folder.old) (F.faults folder.new) result }
 {
-    if let Some(why) = ended {
-        push_end(why, &mut script.pending)?;
-    }
+    push_tail(ended, &mut script.pending)?;
     script.flush()?;
     close_part(alloc, folder, script)
 }

@@ -1,6 +1,6 @@
 //! The names and the comments of parts.
 ghost use Rattle.std.specs.Prelude.{◌≡◌, ◌-◌, ◌++◌, IfOk, OnOk, replicate};
-ghost use Rattle.plant_record.specs.Parts.{end_line, part_name, reason};
+ghost use Rattle.plant_record.specs.Parts.{end_line, part_name, reason, tail_by};
 
 use dom_base::{NoMemory, Text};
 use event_tape::TapeEnd;
@@ -45,12 +45,22 @@ fn reason(why: TapeEnd) -> &'static [u8]
     }
 }
 
-/// Writes the last line of a record that ended in order.
-pub(crate) fn push_end(why: TapeEnd, into: &mut Vec<u8>) -> Result<(), NoMemory>
+// The last line of a record that ended in order.
+fn push_end(why: TapeEnd, into: &mut Vec<u8>) -> Result<(), NoMemory>
     ensures { OnOk result (into.new.items ≡ into.old.items ++ end_line why) }
 {
     into.extend_from_slice(b"# end of record: ")?;
     into.extend_from_slice(reason(why))?;
     into.push(b'\n')?;
     Ok(())
+}
+
+/// Writes what stands behind the lines of the last part: its last line, where the tape ended.
+pub(crate) fn push_tail(ended: Option<TapeEnd>, into: &mut Vec<u8>) -> Result<(), NoMemory>
+    ensures { OnOk result (into.new.items ≡ into.old.items ++ tail_by ended) }
+{
+    match ended {
+        Some(why) => push_end(why, into),
+        None => Ok(()),
+    }
 }
