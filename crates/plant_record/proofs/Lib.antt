@@ -1,1 +1,7 @@
--- lemmas
+mod Events
+mod Books
+mod Standing
+mod Closing
+mod Writing
+mod LastPart
+mod HandLaws

@@ -1,11 +1,10 @@
 //! What a desk hands out is written, hand by hand.
-ghost use Rattle.std.specs.Prelude.{◌≡◌, ◌++◌, ◌×◌, List, Err};
+ghost use Rattle.std.specs.Prelude.{◌≡◌, ◌≢◌, ◌++◌, List, Err};
 ghost use Rattle.event_tape.specs.declared.told.Told.{Told as Event};
 ghost use Rattle.plant_record.specs.Parts.{Title};
 ghost use Rattle.plant_record.specs.Recording.{Leaves, Records};
 ghost use Rattle.plant_record.specs.Standing.{Stands};
 ghost use Rattle.plant_record.specs.Steps.{Counts, GoesOn, IsHandTaken, end_of};
-ghost use Rattle.plant_record.specs.declared.recorded.Recorded.TheVariants as recorded;
 
 use crate::desks::{Pause, TapeDesk};
 use crate::ending::finish;
@@ -59,7 +58,7 @@ fn turn<D: TapeDesk, F: Folder, C: Calendar>(
 ) -> Result<Rows<Told>, Recorded>
     ensures turned { Records F.File.faults (F.faults folder.old) (F.faults folder.new) 1 script.old.events (end_of result) (D.handed desk.old) (D.handed desk.new)
         (λ more. Counts result script.old.events script.new.events more × GoesOn F.File.written peers.now (end_of result) script.old script.new (F.contents folder.old) (F.contents folder.new) more) }
-    ensures goes_on { result ≡ Err recorded.Turns → ⊥ }
+    ensures goes_on { result ≢ Err Recorded.Turns }
 {
     match desk.hand(room) {
         Ok(handed) => take_hand(alloc, folder, calendar, peers, script, handed),
