@@ -1,5 +1,6 @@
 -- The hands of a record, one behind the other.
-use Rattle.std.proofs.Common.{◌≡◌, ◌≢◌, ℕ, ◌+◌, ◌≤◌, min, List, [], ◌∷◌, ◌++◌, length, append_assoc, append-nil, Option, Some, None, Result, Ok, Err, OnOk, refl, sym, ap, subst, ◌∙◌, arith, inl, inr, length-append, flat_map-append}
+use Rattle.std.proofs.Common.{◌≡◌, ◌≢◌, ℕ, ◌+◌, ◌≤◌, min, List, [], ◌∷◌, ◌++◌, length, append_assoc, append-nil, Option, Some, None, Result, Ok, Err, OnOk, refl, sym, ap, subst, ◌∙◌, arith, inl, inr, length-append}
+use Rattle.std.proofs.lemmas.List.Concat.{flat_map-append}
 use Rattle.std.specs.List.{flat_map}
 use Rattle.dom_edge.specs.Causes.{next_count, Rose}
 use Rattle.dom_edge.specs.Folders.{Contents}
@@ -68,14 +69,14 @@ module _ {F : Type 0} (written : F → Option (List ℕ)) (faults : F → ℕ) (
   }
 
   -- what a turn does
-  abbrev pub IsTurn : {X : Type 0} → Result X Recorded → ℕ → ℕ → Hands → Hands → S → S → Option Contents → Option Contents → Type 0
+  abbrev pub IsTurn : Result (List Told) Recorded → ℕ → ℕ → Hands → Hands → S → S → Option Contents → Option Contents → Type 0
   IsTurn result before now old new s u c d = Records faults before now 1 s.events (end_of result) old new (λ more. Counts result s.events u.events more × GoesOn written peers (end_of result) s u c d more)
 
   goes_behind : (end : Recorded) (s u v : S) (c d x : Option Contents) (more last : List Told) → GoesOn written peers Turns s u c d more → GoesOn written peers end u v d x last → GoesOn written peers end s v c x (more ++ last)
   goes_behind end s u v c d x more last first second t before st =
       subst (λ (es : List Told). Reaches written peers t es end v x) (append_assoc before more last) (second t (before ++ more) (first t before st))
 
-  pub one_run : {X : Type 0} (y : X) (before mid now n : ℕ) (old new after : Hands) (s u v : S) (c d x : Option Contents) → IsRunning before mid n old new s u c d → IsTurn {X} (Ok y) mid now new after u v d x → IsRunning before now (n + 1) old after s v c x
+  pub one_run : (y : List Told) (before mid now n : ℕ) (old new after : Hands) (s u v : S) (c d x : Option Contents) → IsRunning before mid n old new s u c d → IsTurn (Ok y) mid now new after u v d x → IsRunning before now (n + 1) old after s v c x
   one_run y before mid now n old new after s u v c d x r turn =
       let all : List Handed = turn.hands in
       let here : after.hands ≡ new.hands ++ all = turn.handed ∙ ap (λ (hs : List Handed). new.hands ++ (all ++ hs)) turn.cause.0 ∙ ap (λ (hs : List Handed). new.hands ++ hs) (append-nil all) in
@@ -101,7 +102,7 @@ module _ {F : Type 0} (written : F → Option (List ℕ)) (faults : F → ℕ) (
       subst (λ (k : ℕ). IsStray k stray) same is
   cause_behind before mid now n turns events (Fault fault) hands more stray spent low other is = reason_wider faults before mid now now fault low (omega arith) is
 
-  pub run_ends : {X : Type 0} (before mid now n turns : ℕ) (end : Recorded) (old new after : Hands) (s u v : S) (c d x : Option Contents) → end ≢ Turns → IsRunning before mid n old new s u c d → IsTurn {X} (Err end) mid now new after u v d x
+  pub run_ends : (before mid now n turns : ℕ) (end : Recorded) (old new after : Hands) (s u v : S) (c d x : Option Contents) → end ≢ Turns → IsRunning before mid n old new s u c d → IsTurn (Err end) mid now new after u v d x
       → Records faults before now turns s.events end old after (GoesOn written peers end s v c x)
   run_ends before mid now n turns end old new after s u v c d x other r turn =
       let all : List Handed = turn.hands in
@@ -128,7 +129,7 @@ module _ {F : Type 0} (written : F → Option (List ℕ)) (faults : F → ℕ) (
 
   -- ---- one turn
 
-  pub spent_turn : {X : Type 0} (n k : ℕ) (old new : Hands) (s : S) (c : Option Contents) → Goes old new (Err k) → IsTurn {X} (Err (Spent k)) n n old new s s c c
+  pub spent_turn : (n k : ℕ) (old new : Hands) (s : S) (c : Option Contents) → Goes old new (Err k) → IsTurn (Err (Spent k)) n n old new s s c c
   spent_turn n k old new s c goes = record {
     hands = [];
     stray = [];
@@ -140,7 +141,7 @@ module _ {F : Type 0} (written : F → Option (List ℕ)) (faults : F → ℕ) (
   }
 
   -- a hand that is written
-  told_turn : {X : Type 0} (result : Result X Recorded) (before now : ℕ) (old new : Hands) (s u : S) (c d : Option Contents) (h : Handed) → Goes old new (Ok h) → h.before ≡ s.events → before ≤ now
+  told_turn : (result : Result (List Told) Recorded) (before now : ℕ) (old new : Hands) (s u : S) (c d : Option Contents) (h : Handed) → Goes old new (Ok h) → h.before ≡ s.events → before ≤ now
       → HasCause faults before now 1 (record { events = s.events; hands = h ∷ []; stray = []; spent = new.spent }) (end_of result)
       → Counts result s.events u.events h.items → GoesOn written peers (end_of result) s u c d h.items → IsTurn result before now old new s u c d
   told_turn result before now old new s u c d h goes here later cause counts on = record {
@@ -156,7 +157,7 @@ module _ {F : Type 0} (written : F → Option (List ℕ)) (faults : F → ℕ) (
     );
   }
 
-  stray_turn : {X : Type 0} (before now : ℕ) (old new : Hands) (s u : S) (c d : Option Contents) (h : Handed) → Goes old new (Ok h) → h.before ≢ s.events → before ≤ now → GoesOn written peers Lost s u c d [] → IsTurn {X} (Err Lost) before now old new s u c d
+  stray_turn : (before now : ℕ) (old new : Hands) (s u : S) (c d : Option Contents) (h : Handed) → Goes old new (Ok h) → h.before ≢ s.events → before ≤ now → GoesOn written peers Lost s u c d [] → IsTurn (Err Lost) before now old new s u c d
   stray_turn before now old new s u c d h goes other later on = record {
     hands = [];
     stray = h ∷ [];

@@ -44,7 +44,7 @@ module _ {F : Type 0} (written : F → Option (List ℕ)) (peers : List PeerRow)
           no_more told u c
           (breaks_at written peers t told [] s u c st (ap (λ (w : S). w.number) is.others ∙ number) (st.bytes ++ take is.some.count v.pending)
           (appended (written_in written v.file) (written_in written u.file) st.bytes (take is.some.count v.pending) known is.some.added) ended
-          (cut_begins (text_of st.book st.moment st.events ++ tail_by ended) st.bytes v.pending is.some.count last_text))
+          (cut_begins written peers t (text_of st.book st.moment st.events ++ tail_by ended) st.bytes v.pending is.some.count last_text))
 
       module _ (u w : S) (d : Option Contents) (is : IsFlushed written v u) where
         all : written_in written u.file ≡ Some (st.bytes ++ v.pending)

@@ -37,7 +37,11 @@ pub fn begin<F: Folder, C: Calendar>(
     folder.enter(alloc, name)?;
     keep_file(alloc, folder, "net.toml", settings)?;
     let mut script = Script::new(alloc, named, version);
-    open_part(alloc, folder, &mut script, moment)?;
-    script.flush()?;
-    Ok(script)
+    if let Err(fault) = open_part(alloc, folder, &mut script, moment) {
+        return Err(fault);
+    }
+    match script.flush() {
+        Ok(()) => Ok(script),
+        Err(fault) => Err(fault),
+    }
 }

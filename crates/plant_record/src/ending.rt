@@ -41,7 +41,9 @@ fn close_last<F: Folder>(
     ensures judged { IsJudged F.File.faults (F.faults folder.old) (F.faults folder.new) result }
 {
     push_tail(ended, &mut script.pending)?;
-    script.flush()?;
+    if let Err(fault) = script.flush() {
+        return Err(fault);
+    }
     close_part(alloc, folder, script)
 }
 

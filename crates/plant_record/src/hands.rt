@@ -84,13 +84,18 @@ fn write_event<F: Folder>(
     ensures judged { IsJudged F.File.faults (F.faults folder.old) (F.faults folder.new) result }
 {
     if script.is_over(moment) {
-        turn_page(alloc, folder, script, moment)?;
+        if let Err(fault) = turn_page(alloc, folder, script, moment) {
+            return Err(fault);
+        }
     }
-    push_told(alloc, folder, script, peers, told)?;
+    if let Err(fault) = push_told(alloc, folder, script, peers, told) {
+        return Err(fault);
+    }
     if script.is_heavy() {
-        script.flush()?;
+        script.flush()
+    } else {
+        Ok(())
     }
-    Ok(())
 }
 
 /// Writes the events of a hand: a line each, and before it the topology that it loads.
@@ -107,7 +112,9 @@ pub(crate) fn write_hand<F: Folder>(
     ensures judged { IsJudged F.File.faults (F.faults folder.old) (F.faults folder.new) result }
 {
     for told in items {
-        write_event(alloc, folder, script, peers, told, moment)?;
+        if let Err(why) = write_event(alloc, folder, script, peers, told, moment) {
+            return Err(why);
+        }
     }
     script.flush()
 }

@@ -103,7 +103,11 @@ pub(crate) fn turn_page<F: Folder>(
     ensures after { (peers : List PeerRow) (t : Title) (told : List Told) → Stands F.File.written peers t told script.old (F.contents folder.old) → After F.File.written peers t told result script.new (F.contents folder.new) }
     ensures judged { IsJudged F.File.faults (F.faults folder.old) (F.faults folder.new) result }
 {
-    script.flush()?;
-    close_part(alloc, folder, script)?;
+    if let Err(fault) = script.flush() {
+        return Err(fault);
+    }
+    if let Err(fault) = close_part(alloc, folder, script) {
+        return Err(fault);
+    }
     open_part(alloc, folder, script, moment)
 }
