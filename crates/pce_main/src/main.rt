@@ -42,6 +42,8 @@ serve NET           serves a network at the ports of its peers until it is ended
 blind NET           reads a script whose solves have border tables, plays it on a network without
                     topologies, writes what closed peers hear
 bulk N              draws a large network and N requests (1 to 8000), writes what they are answered in all
+check NET           reads a network's settings and the topologies that they name, writes each fault and what
+                    else is to be mended, a line each: `FILE LINE FAULT`, `FILE LINE warning WORDS`
 --help              writes this table
 --version           writes the versions of the program and of the toolchain
 
@@ -73,7 +75,7 @@ fn words_of(rt: &HostRuntime) -> Result<Vec<String>, Status> {
 
 // Whether the word behind this command is the file of a network's settings.
 fn takes_settings(verb: &str) -> bool {
-    matches!(verb, "path" | "play" | "blind" | "serve")
+    matches!(verb, "path" | "play" | "blind" | "serve" | "check")
 }
 
 // A file's folder and its name there; none where the name begins in the working folder.
