@@ -36,6 +36,13 @@ pub struct Rows<'a> {
     pub name: &'a [u8],
 }
 
+/// The value of a key.
+pub(crate) fn value_at<'a>(table: &'a Table, key: &str) -> Option<&'a Value>
+    ensures { option_map (λ v. view v.now) result ≡ get_member key.now (table_view table.now) }
+{
+    table.get(key)
+}
+
 fn kind_words(kind: Kind) -> &'static [u8]
     ensures { result.now ≡ allowed kind }
 {
@@ -108,7 +115,7 @@ fn tell_field(
     ensures { OnOk result (into.new.items ≡ into.old.items ++ field_text (sheet_of rows.now) index label.now (table_view table.now) (column field.now)) }
 {
     let key = field.key.as_bytes();
-    match table.get(field.key) {
+    match value_at(table, field.key) {
         Some(value) => {
             if fits(field.kind, value) {
                 Ok(())

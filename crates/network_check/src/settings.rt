@@ -1,7 +1,6 @@
 //! What is told of settings that are at fault: the fault, and each key that lacks, is not known, or has a value that it may not have.
 ghost use Rattle.std.specs.Prelude.{◌≡◌, ◌++◌, ◌<◌, ◌^◌, IfOk, OnOk, codes, length, option_map};
 ghost use Rattle.std.specs.Str.Lines.{lines as lines_of};
-ghost use Rattle.toml.specs.Data.{get_member};
 ghost use Rattle.toml.specs.View.{table_view, view};
 ghost use Rattle.plant_text.specs.Reads.{document};
 ghost use Rattle.network_check.specs.Faulty.{deny_text, element_text, faulty_text, first_line, header, line_at, link_text, name_at, parent_link_text, parent_text, parent_value_text, peer_text, row_fault, settings_fault, tables_text, top_text};
@@ -9,7 +8,7 @@ ghost use Rattle.network_check.specs.Faulty.{deny_text, element_text, faulty_tex
 use crate::faults::fault_words;
 use crate::kinds::Kind;
 use crate::places::{row_line, top_line};
-use crate::rows::{Field, Rows, name_of, tell_rows, tell_table};
+use crate::rows::{Field, Rows, name_of, tell_rows, tell_table, value_at};
 use crate::told::{Piece, tell, write_pieces};
 use dom_base::NoMemory;
 use plant_text::NetFault;
@@ -18,12 +17,6 @@ use std::str::from_utf8;
 use toml::{Table, Value, table_from_str};
 
 // ---- tables
-
-fn value_at<'a>(table: &'a Table, key: &str) -> Option<&'a Value>
-    ensures { option_map (λ v. view v.now) result ≡ get_member key.now (table_view table.now) }
-{
-    table.get(key)
-}
 
 fn tell_elements(
     alloc: Global,
