@@ -1,8 +1,7 @@
 //! The lines of a settings text at which its rows and keys stand.
-ghost use Rattle.std.specs.Prelude.{◌≡◌, ◌≤◌, ◌<◌, ◌^◌, length};
+ghost use Rattle.std.specs.Prelude.{◌≡◌, ◌<◌, ◌^◌, length};
 ghost use Rattle.std.specs.Str.Lines.{lines as lines_of};
 ghost use Rattle.network_check.specs.Places.{behind, heads as heads_line, key_line, line_of as line_of_row, is_key as is_key_word, names_key as names, opens as opens_line, seek as seek_line, top_line as line_of_top, value_line as line_of_value};
-ghost use Rattle.network_files.specs.Settings.{settings_max};
 
 use line_text::{Lines, Words};
 
