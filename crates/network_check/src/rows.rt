@@ -1,16 +1,13 @@
 //! The keys of the rows of settings: which lack, which are not known, and which have a value that they may not have.
-ghost use Rattle.std.specs.Prelude.{◌≡◌, ◌++◌, ◌<◌, ◌^◌, IfOk, OnOk, codes, find, length, map, not, option_map, string_bytes};
+ghost use Rattle.std.specs.Prelude.{◌≡◌, ◌++◌, ◌<◌, ◌^◌, IfOk, OnOk, find, length, map, not, option_map, string_bytes};
 ghost use Rattle.std.specs.BTreeMap.{keys};
-ghost use Rattle.std.specs.List.{list_any};
 ghost use Rattle.std.specs.Option.{option_copied};
-ghost use Rattle.std.specs.Str.{bytes_eq};
 ghost use Rattle.std.specs.Str.Lines.{lines as lines_of};
 ghost use Rattle.toml.specs.Data.{get_member};
 ghost use Rattle.toml.specs.View.{items_view, table_view, view};
 ghost use Rattle.plant_text.specs.SettingsText.{names};
 ghost use Rattle.network_check.specs.Kinds.{allowed};
 ghost use Rattle.network_check.specs.Columns.{column, columns_text, field_text, is_column, items_text, kind_text, member_text, name_in, row_label, row_text, rows_text, sheet_of, unknown_text};
-ghost use Rattle.network_check.specs.Told.{told};
 
 use crate::kinds::{Kind, fits};
 use crate::places::{row_line, top_line, value_line};
@@ -61,12 +58,12 @@ fn kind_words(kind: Kind) -> &'static [u8]
 }
 
 // What a key may be.
-fn tell_kind(
+fn tell_kind<'x>(
     file: &[u8],
     line: u32,
-    label: &[u8],
-    key: &[u8],
-    what: &[u8],
+    label: &'x [u8],
+    key: &'x [u8],
+    what: &'x [u8],
     kind: Kind,
     into: &mut Vec<u8>,
 ) -> Result<(), NoMemory>
@@ -163,7 +160,12 @@ fn tell_fields(
 fn is_known(fields: &[Field], key: &str) -> bool
     ensures { result ≡ is_column (map column fields.now) key.now }
 {
-    fields.iter().any(|field| key == field.key)
+    for i in 0..fields.len() {
+        if fields[i].key == key {
+            return true;
+        }
+    }
+    false
 }
 
 fn unknown_key<'a>(table: &'a Table, fields: &[Field]) -> Option<&'a String>
@@ -173,11 +175,11 @@ fn unknown_key<'a>(table: &'a Table, fields: &[Field]) -> Option<&'a String>
 }
 
 // The first key that is not known.
-fn tell_unknown(
+fn tell_unknown<'x>(
     rows: &Rows<'_>,
     index: usize,
-    label: &[u8],
-    table: &Table,
+    label: &'x [u8],
+    table: &'x Table,
     fields: &[Field],
     into: &mut Vec<u8>,
 ) -> Result<(), NoMemory>
@@ -231,7 +233,12 @@ pub(crate) fn name_of(value: &Value) -> Option<&str>
 }
 
 // What a row is called: its table, its index, and its name where it has one.
-fn label_of(alloc: Global, name: &[u8], index: usize, value: &Value) -> Result<Vec<u8>, NoMemory>
+fn label_of<'x>(
+    alloc: Global,
+    name: &'x [u8],
+    index: usize,
+    value: &'x Value,
+) -> Result<Vec<u8>, NoMemory>
     ensures { IfOk result (λ label. label.items ≡ row_label name.now index (name_in (view value.now))) }
 {
     let mut label = Vec::new(alloc);

@@ -456,13 +456,13 @@ fn name_of_row<'a>(root: &'a Table, table: &str, index: usize) -> Option<&'a str
 }
 
 // A rule that a row breaks.
-fn tell_row_fault(
+fn tell_row_fault<'x>(
     alloc: Global,
     file: &[u8],
     text: &[u8],
-    root: &Table,
-    why: &[u8],
-    table: &str,
+    root: &'x Table,
+    why: &'x [u8],
+    table: &'x str,
     index: u32,
     into: &mut Vec<u8>,
 ) -> Result<(), NoMemory>

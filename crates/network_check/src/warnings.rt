@@ -114,11 +114,11 @@ fn meets_watch(watch: Option<u16>, row: &PeerRow) -> bool
     }
 }
 
-fn warn_of_met(
+fn warn_of_met<'x>(
     file: &[u8],
     line: u32,
-    before: &[PeerRow],
-    row: &PeerRow,
+    before: &'x [PeerRow],
+    row: &'x PeerRow,
     into: &mut Vec<u8>,
 ) -> Result<(), NoMemory>
     ensures { OnOk result (into.new.items ≡ into.old.items ++ met_warning file.now line before.now row.now) }
