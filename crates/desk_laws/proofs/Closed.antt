@@ -151,21 +151,12 @@ put_is_said_blindly n es t run i closed bytes put =
     let x : Outlet = put.connection in
     let ds : List PlantDeed = deeds_of wire n put.moment in
     let last : EndsWith (Some x) (messages_for i ds) = subst (λ (o : Option Outlet). EndsWith o (messages_for i ds)) put.is_open (put_last n i put.moment at.0 at.1) in
+    λ (trace : List BlindEvent) (s : Plant) (disclosed : DisclosedRun wire n put.moment trace s).
+    let blind = says_as_blind wire n put.moment trace s disclosed in
     record {
-      later = put.later;
-      moment = put.moment;
-      is = put.is;
-      connection = x;
-      is_open = put.is_open;
-      rest = put.rest;
-      front = put.front;
-      blindly = λ (trace : List BlindEvent) (s : Plant) (disclosed : DisclosedRun wire n put.moment trace s).
-          let blind = says_as_blind wire n put.moment trace s disclosed in
-          record {
-            said = heard wire n ds;
-            left = blind.0;
-            says = blind.1;
-            before = map text last.0;
-            ends = of_deeds n i closed ds ∙ ap (λ (ms : List Sent). map text ms) last.1 ∙ map-append text last.0 x.put;
-          };
+      said = heard wire n ds;
+      left = blind.0;
+      says = blind.1;
+      before = map text last.0;
+      ends = of_deeds n i closed ds ∙ ap (λ (ms : List Sent). map text ms) last.1 ∙ map-append text last.0 x.put;
     }

@@ -5,6 +5,7 @@ mod Runs
 mod Opening
 mod Repeats
 mod Starts
+mod Watches
 pub mod WatchTurns
 pub mod Workings
 pub mod CrossingParts

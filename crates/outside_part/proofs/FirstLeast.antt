@@ -24,7 +24,7 @@ alike_at s [] has = absurd has
 alike_at s (y ∷ rows) (inl same) = (0, y, refl, same)
 alike_at s (y ∷ rows) (inr more) = let r = alike_at s rows more in (suc r.0, r.1, r.2, r.3)
 
-pairs : (rows : List Reported) → Ascends rows → AllPairs ComesBefore rows
+pub pairs : (rows : List Reported) → Ascends rows → AllPairs ComesBefore rows
 pairs [] up = λ i j d less within. absurd (omega (arith, within))
 pairs (y ∷ rows) up = AllPairs-cons ComesBefore y rows (All-from_recursion (ComesBefore y) rows up.0) (pairs rows up.1)
 

@@ -1,14 +1,15 @@
 //! A reply, sifted.
 ghost use Rattle.std.specs.Prelude.{◌≡◌, IfOk, map};
+ghost use Rattle.std.specs.BTreeMap.{values};
 ghost use Rattle.dom_base.specs.Words.{units, word_of};
 ghost use Rattle.outside_part.specs.Sifting.{path_by, sifted_answer, sifted};
 
 use crate::reported::Reported;
 use crate::rows::rows_of;
-use dom_base::{List, NoMemory, word_of_cost};
+use dom_base::{Addr, List, NoMemory, word_of_cost};
 use pcep_messages::{Answer, Path, Reply};
 use std::alloc::Global;
-use std::collections::VecDeque;
+use std::collections::BTreeMap;
 
 fn path_by(row: Reported) -> Path
     ensures { result ≡ path_by word_of row }
@@ -19,12 +20,11 @@ fn path_by(row: Reported) -> Path
     }
 }
 
-fn paths_by(alloc: Global, rows: Vec<Reported>) -> Result<List<Path>, NoMemory>
-    ensures { IfOk result (λ paths. paths ≡ map (path_by word_of) rows.items) }
+fn paths_by(alloc: Global, rows: BTreeMap<(Addr, u8), Reported>) -> Result<List<Path>, NoMemory>
+    ensures { IfOk result (λ paths. paths ≡ map (path_by word_of) (values rows)) }
 {
-    let mut left = VecDeque::from_vec(rows);
     let mut paths = List::new(alloc);
-    while let Some(row) = left.pop_front() {
+    for row in rows.into_values() {
         paths.push(path_by(row))?;
     }
     Ok(paths)

@@ -24,7 +24,8 @@ use Rattle.path_search.specs.declared.arc.Arc.{Arc}
 use Rattle.path_search.specs.Arcs.{label_at, joined, IsWithin, IsArcAmong, IsRelaxed, IsSupportedBy, Settles}
 use Rattle.path_search.specs.Starts.{IsCovered, AreStarts}
 use Rattle.path_search.specs.Search.{IsArcOf, AreLabels}
-use Rattle.path_search.proofs.Places.{same_place, place_of, label_of, label_of-at, label_of_found}
+use Rattle.path_search.specs.Reading.{IsArcAt}
+use Rattle.path_search.proofs.Places.{same_place, place_of, contains_at, label_of, label_of-at, label_of_found}
 
 le_antisym : (a b : Label) → a ≼ b → b ≼ a → a ≡ b
 le_antisym a b (inl lt) (inl lt') = absurd (omega arith)
@@ -159,15 +160,20 @@ weight_bounds nodes Igp l among = among.link.igp
 weight_bounds nodes Te l among = among.link.te
 weight_bounds nodes Hops l among = (omega arith, omega arith)
 
+-- an arc of a link goes from one of the places to another
+pub among_at : (g : Rows) (m : Metric) (n index : ℕ) (a : Arc) → IsTopology g → length g.nodes ≡ n → IsArcAt g m index a → IsArcAmong n a
+among_at g m n index a valid is at =
+    let bounds = weight_bounds g.nodes m at.link (All-contains (IsInnerLink g.nodes) g.links at.link valid.links (contains_at g.links index at.link at.at_link)) in
+    record {
+      tail = omega (arith, is, slice_get_within g.nodes a.tail at.link.from at.tail);
+      head = omega (arith, is, slice_get_within g.nodes a.head at.link.to at.head);
+      heavy = omega (arith, at.weight, bounds.0);
+      light = omega (arith, at.weight, bounds.1);
+    }
+
 pub arc_among : (g : Rows) (q : Query) (n : ℕ) (a : Arc) → IsTopology g → length g.nodes ≡ n → IsArcOf g q a.link a → IsArcAmong n a
 arc_among g q n a valid is of =
-    let bounds = weight_bounds g.nodes q.metric of.link (All-contains (IsInnerLink g.nodes) g.links of.link valid.links of.admitted.is_link) in
-    record {
-      tail = omega (arith, is, slice_get_within g.nodes a.tail of.link.from of.tail);
-      head = omega (arith, is, slice_get_within g.nodes a.head of.link.to of.head);
-      heavy = omega (arith, of.weight, bounds.0);
-      light = omega (arith, of.weight, bounds.1);
-    }
+    among_at g q.metric n a.link a valid is (record { same_index = refl; link = of.link; at_link = of.at_link; tail = of.tail; head = of.head; weight = of.weight })
 
 pub start_within : (g : Rows) (q : Query) (seeds : List Seed) (start : List (Option Label)) → AreStarts g q seeds start → All (IsWithin q.cap) start
 start_within g q seeds start are k d below = go (slice_index_or start k d) refl

@@ -13,17 +13,15 @@ use Rattle.dom_base.specs.declared.query.Exclusion.{Exclusion}
 use Rattle.dom_base.specs.declared.query.Excluded.{Excluded}
 use Rattle.dom_base.specs.declared.query.Excluded.TheVariants.{Prefix, AsNumber, Srlg, Other}
 use Rattle.te_links.specs.Rows.{Rows, IsTopology, IsInnerLink}
-use Rattle.te_links.specs.Index.{LinkEndsAt}
 use Rattle.walk_laws.specs.Walks.{AdmitsNode}
 use Rattle.path_search.specs.declared.arc.Arc.{Arc}
 use Rattle.path_search.specs.Asked.{is_barred, AreBarred}
-use Rattle.path_search.specs.Arcs.{CanLower}
+use Rattle.path_search.specs.Arcs.{IsRelaxed}
 use Rattle.path_search.specs.Search.{IsArcOf, IsNoArc, IsIdle}
+use Rattle.path_search.specs.Reading.{IsArcAt}
 use Rattle.std.specs.declared.option.Option.{Option}
 use Rattle.dom_base.specs.declared.query.Label.{Label}
 use Rattle.path_search.proofs.Places.{contains_at, place_of, same_place}
-use Rattle.path_search.proofs.Certified.{arc_among}
-use Rattle.path_search.proofs.Relaxing.{idle_arc}
 use Rattle.path_search.proofs.Choosing.{link_admitted}
 use Rattle.path_search.proofs.Barring.{barred_no_arc}
 
@@ -124,6 +122,13 @@ allowed q l = go (fits q l) (bars q l)
     go (inr never) b = inr (λ a. never a.fits)
     go (inl is) (inl barred) = inr (λ a. a.free barred)
 
+-- a link that is not allowed is not admitted
+pub not_allowed : (g : Rows) (q : Query) (p : ℕ) (l : Link) → slice_get g.links p ≡ Some l → (Allows q l → ⊥) → IsNoArc g q p
+not_allowed g q p l at never m at_m admitted =
+    let one : Some l ≡ Some m = sym at ∙ at_m in
+    let same_link : m ≡ l = cc in
+    never (subst (Allows q) same_link admitted.allowed)
+
 -- the link at a place has an arc, or is not admitted
 pub link_or_none : (g : Rows) (q : Query) (barred : List Bool) (p : ℕ) (l : Link) → IsTopology g → AreBarred g q barred → slice_get g.links p ≡ Some l →
     IsNoArc g q p ⊎ ((a : Arc) × IsArcOf g q p a)
@@ -149,7 +154,7 @@ link_or_none g q barred p l valid are at =
     }
 
     go : Decided (Allows q l) → (b : Bool) → is_barred barred tail.0 ≡ b → (c : Bool) → is_barred barred head.0 ≡ c → IsNoArc g q p ⊎ ((a : Arc) × IsArcOf g q p a)
-    go (inr never) b is_b c is_c = inl (λ m at_m admitted. let both_are : Some l ≡ Some m = sym at ∙ at_m in let same_link : m ≡ l = cc in never (subst (Allows q) same_link admitted.allowed))
+    go (inr never) b is_b c is_c = inl (not_allowed g q p l at never)
     go (inl is) true is_b c is_c = inl (none_at (inl is_b))
     go (inl is) false is_b true is_c = inl (none_at (inr is_c))
     go (inl is) false is_b false is_c = inr (
@@ -169,15 +174,43 @@ link_or_none g q barred p l valid are at =
 pub idle_none : (g : Rows) (q : Query) (labels : List (Option Label)) (p : ℕ) → IsNoArc g q p → IsIdle g q labels p
 idle_none g q labels p none a of = absurd (none of.link of.at_link of.admitted)
 
--- neither has one between places at which no arc can lower a label
-pub idle_link : (g : Rows) (q : Query) (labels : List (Option Label)) (p : ℕ) (l : Link) (tail head : ℕ) → IsTopology g → slice_get g.links p ≡ Some l →
-    slice_get g.nodes tail ≡ Some l.from → LinkEndsAt g.nodes g.links head p → (CanLower labels tail head → ⊥) → IsIdle g q labels p
-idle_link g q labels p l tail head valid at at_tail ends never a of =
-    let one : Some of.link ≡ Some l = sym of.at_link ∙ at in
-    let link_is : of.link ≡ l = cc in
-    let other : Some of.link ≡ Some ends.link = sym of.at_link ∙ ends.at_link in
-    let end_is : of.link ≡ ends.link = cc in
-    let tail_is : a.tail ≡ tail = same_place g.nodes valid.nodes_differ a.tail tail l.from (of.tail ∙ ap (λ (m : Link). Some m.from) link_is) at_tail in
-    let head_is : a.head ≡ head = same_place g.nodes valid.nodes_differ a.head head ends.link.to (of.head ∙ ap (λ (m : Link). Some m.to) end_is) ends.at_node in
-    let among = arc_among g q (length g.nodes) a valid refl (subst (λ k. IsArcOf g q k a) (sym of.same_index) of) in
-    idle_arc q.cap labels a among.heavy (λ can. never (subst (λ i. CanLower labels i head) tail_is (subst (CanLower labels a.tail) head_is can)))
+-- the arc of a link is one
+same_arc : (g : Rows) (q : Query) (p : ℕ) (a b : Arc) → IsTopology g → IsArcOf g q p a → IsArcAt g q.metric p b → a ≡ b
+same_arc g q p a b valid of at =
+    let one : Some of.link ≡ Some at.link = sym of.at_link ∙ at.at_link in
+    let link_is : of.link ≡ at.link = cc in
+    let tail : a.tail ≡ b.tail = same_place g.nodes valid.nodes_differ a.tail b.tail at.link.from (of.tail ∙ ap (λ (m : Link). Some m.from) link_is) at.tail in
+    let head : a.head ≡ b.head = same_place g.nodes valid.nodes_differ a.head b.head at.link.to (of.head ∙ ap (λ (m : Link). Some m.to) link_is) at.head in
+    let weighs : a.weight ≡ b.weight = of.weight ∙ (ap (weight q.metric) link_is ∙ sym at.weight) in
+    let link : a.link ≡ b.link = of.same_index ∙ sym at.same_index in
+    let make : ℕ → ℕ → ℕ → ℕ → Arc = λ t h w l. record { tail = t; head = h; weight = w; link = l } in
+    ap (λ t. make t a.head a.weight a.link) tail
+    ∙ (ap (λ h. make b.tail h a.weight a.link) head ∙ (ap (λ w. make b.tail b.head w a.link) weighs ∙ ap (λ l. make b.tail b.head b.weight l) link))
+
+-- nor has one whose arc is relaxed
+pub idle_relaxed : (g : Rows) (q : Query) (labels : List (Option Label)) (p : ℕ) (b : Arc) → IsTopology g → IsArcAt g q.metric p b → IsRelaxed q.cap labels b → IsIdle g q labels p
+idle_relaxed g q labels p b valid at relaxed a of = subst (IsRelaxed q.cap labels) (sym (same_arc g q p a b valid of at)) relaxed
+
+-- neither is one of which an end is barred
+pub end_barred : (g : Rows) (q : Query) (barred : List Bool) (p : ℕ) (a : Arc) → AreBarred g q barred → IsArcAt g q.metric p a →
+    (is_barred barred a.tail ≡ true) ⊎ (is_barred barred a.head ≡ true) → IsNoArc g q p
+end_barred g q barred p a are at bars =
+    barred_no_arc g q barred at.link a.tail a.head p are at.at_link at.tail (record { link = at.link; at_link = at.at_link; at_node = at.head }) bars
+
+-- one that is allowed, and of which no end is barred, is
+pub admitted_arc : (g : Rows) (q : Query) (barred : List Bool) (p : ℕ) (a : Arc) (l : Link) → AreBarred g q barred → IsArcAt g q.metric p a → slice_get g.links p ≡ Some l → Allows q l →
+    ((is_barred barred a.tail ≡ true) ⊎ (is_barred barred a.head ≡ true) → ⊥) → IsArcOf g q p a
+admitted_arc g q barred p a l are at at_l allowed_l free =
+    let one : Some l ≡ Some at.link = sym at_l ∙ at.at_link in
+    let same_link : l ≡ at.link = cc in
+    record {
+      same_index = at.same_index;
+      link = at.link;
+      at_link = at.at_link;
+      admitted = link_admitted g q at.link p at.at_link (subst (Allows q) same_link allowed_l)
+          (record { is_node = contains_at g.nodes a.tail at.link.from at.tail; free = λ bars_it. free (inl ((are a.tail at.link.from at.tail).1 bars_it)) })
+          (record { is_node = contains_at g.nodes a.head at.link.to at.head; free = λ bars_it. free (inr ((are a.head at.link.to at.head).1 bars_it)) });
+      tail = at.tail;
+      head = at.head;
+      weight = at.weight;
+    }

@@ -2,7 +2,6 @@
 use Rattle.std.proofs.Common.{◌≡◌, ◌≢◌, inl, inr, ℕ, ◌+◌, ◌<◌, ◌≤◌, List, length, arith, sym, ◌∙◌, ap, subst, None, Some}
 use Rattle.std.specs.Prelude.{Contains, slice_set}
 use Rattle.std.specs.declared.option.Option.{Option}
-use Rattle.std.proofs.lemmas.Bool.{cases_lt}
 use Rattle.std.proofs.lemmas.Bool.Decides.{eqb_tells}
 use Rattle.std.proofs.lemmas.List.{get_or-set_same, get_or-set_other}
 use Rattle.std.proofs.Math.ListN.{length-set}
@@ -12,7 +11,7 @@ use Rattle.walk_laws.specs.Labels.{◌≼◌}
 use Rattle.walk_laws.specs.Certificate.{AtMost}
 use Rattle.walk_laws.proofs.Lower.{le_trans}
 use Rattle.path_search.specs.declared.arc.Arc.{Arc}
-use Rattle.path_search.specs.Arcs.{label_at, IsArcAmong, joined, IsBelow, IsRelaxed, CanLower, Lowers, LowersByOne, IsSupportedBy, Keeps}
+use Rattle.path_search.specs.Arcs.{label_at, IsArcAmong, joined, IsBelow, IsRelaxed, Lowers, IsSupportedBy, Keeps}
 
 -- a label is written at a place, and stands there; elsewhere nothing changes
 pub record IsWritten (old new : List (Option Label)) (t : ℕ) (v : Label) : Type 0 where
@@ -115,22 +114,14 @@ lowers_keeps cap arcs a old new is_arc among low =
           ];
     }
 
--- what is not below a label with the lightest arc before it is at most the label with any arc before it
-not_lowered : (a : Arc) (rest : Label) (o : Option Label) → 1 ≤ a.weight → (IsBelow (record { cost = 1 + rest.cost; exit = rest.exit }) o → ⊥) → AtMost o (joined a rest)
-not_lowered a rest None heavy never = never tt
-not_lowered a rest (Some b) heavy never =
-    elim (cases_lt b.cost (a.weight + rest.cost)) [
-      | inl less ↦ inl less
-      | inr ge ↦ elim (cases_lt (1 + rest.cost) b.cost) [
-        | inl more ↦ absurd (never (inl more))
-        | inr le ↦ elim (cases_lt (rank rest.exit) (rank b.exit)) [
-          | inl exit ↦ absurd (never (inr (omega (arith, ge, le, heavy), exit)))
-          | inr exit ↦ inr (omega (arith, ge, le, heavy), exit)
-        ]
-      ]
-    ]
+-- a label is not both below what stands at a place and at least that
+below_not_most : (b : Label) (o : Option Label) → IsBelow b o → AtMost o b → ⊥
+below_not_most b None below most = most
+below_not_most b (Some a) (inl lt) (inl lt') = omega (arith, lt, lt')
+below_not_most b (Some a) (inl lt) (inr le') = omega (arith, lt, le'.0)
+below_not_most b (Some a) (inr le) (inl lt') = omega (arith, le.0, lt')
+below_not_most b (Some a) (inr le) (inr le') = omega (arith, le.1, le'.1)
 
--- an arc that can't lower the label of its tail is relaxed
-pub idle_arc : (cap : ℕ) (labels : List (Option Label)) (a : Arc) → 1 ≤ a.weight → (CanLower labels a.tail a.head → ⊥) → IsRelaxed cap labels a
-idle_arc most labels a heavy never rest at_head within =
-    not_lowered a rest (label_at labels a.tail) heavy (λ below. never (subst (λ (o : Option Label). LowersByOne o (label_at labels a.tail)) (sym at_head) below))
+-- an arc that lowers a label is not relaxed
+pub low_not_relaxed : (cap : ℕ) (old new : List (Option Label)) (a : Arc) → Lowers cap a old new → IsRelaxed cap old a → ⊥
+low_not_relaxed cap old new a low relaxed = below_not_most (joined a low.rest) (label_at old a.tail) low.better (relaxed low.rest low.at_head low.within)

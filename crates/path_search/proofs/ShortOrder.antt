@@ -1,6 +1,6 @@
 -- Pairs are in the order of the labels that they are short for.
 use Rattle.std.proofs.Common.{◌≡◌, inl, inr, ℕ, ◌+◌, ◌<◌, ◌≤◌, List, length, replicate, arith, refl, sym, ◌∙◌, ap, subst, None, Some}
-use Rattle.std.specs.Prelude.{SomeIff, slice_get, slice_index_or, slice_set, ◌↔◌}
+use Rattle.std.specs.Prelude.{SomeIff, MatchBool, is_some, slice_get, slice_index_or, slice_set}
 use Rattle.std.specs.declared.option.Option.{Option}
 use Rattle.std.proofs.Math.ListN.{length-set}
 use Rattle.std.proofs.lemmas.Bool.{cases_lt, lt-ltb, le-ltb}
@@ -17,11 +17,11 @@ use Rattle.walk_laws.specs.Certificate.{AtMost}
 use Rattle.path_search.specs.declared.arc.Arc.{Arc}
 use Rattle.path_search.specs.declared.blocks.TheConstants.{NOTHING}
 use Rattle.path_search.specs.declared.short.Short.{Short}
-use Rattle.path_search.specs.Arcs.{label_at, IsBelow, IsRelaxed, CanLower, Lowers, LowersByOne}
+use Rattle.path_search.specs.Arcs.{label_at, joined, IsBelow, IsRelaxed, Lowers}
 use Rattle.path_search.specs.Front.{cost_of}
 use Rattle.path_search.specs.Short.{long_of, label_if, label_by, labels_by, put_before, IsLess, IsShort, DoRise, AreShort, no_label}
 use Rattle.path_search.specs.Starts.{Offers}
-use Rattle.path_search.proofs.Relaxing.{IsWritten, written, below_most, same_le}
+use Rattle.path_search.proofs.Relaxing.{IsWritten, written, below_most, low_not_relaxed, same_le}
 
 pub label_small : (exits : List Addr) (s : Short) → s.cost < NOTHING → label_by exits s ≡ Some (long_of exits s)
 label_small exits s small = ap (λ b. label_if b exits s) (lt-ltb s.cost NOTHING small)
@@ -104,38 +104,6 @@ pub cost_here : (exits : List Addr) (rows : List Short) (i : ℕ) (s : Short) (c
 cost_here exits rows i s None are at told = sym (ap cost_of (no_label_here exits rows i s are at told))
 cost_here exits rows i s (Some n) are at told = ap (λ k. Some k) told.1 ∙ sym (ap cost_of (label_here exits rows i s at told.0))
 
-pub lowers_short : (exits : List Addr) (rows : List Short) (tail head : ℕ) (t h : Short) → AreShort exits rows → slice_get rows tail ≡ Some t → slice_get rows head ≡ Some h →
-    ((h.cost < NOTHING) × IsLess (put_before 1 h) t) ↔ CanLower (labels_by exits rows) tail head
-lowers_short exits rows tail head t h are at_tail at_head = (to, from)
-  where
-    ls : List (Option Label)
-    ls = labels_by exits rows
-
-    held : IsShort exits h
-    held = held_at exits rows head h are at_head
-
-    tail_is : label_at ls tail ≡ label_by exits t
-    tail_is = at_row exits rows tail t at_tail
-
-    to : (h.cost < NOTHING) × IsLess (put_before 1 h) t → CanLower ls tail head
-    to can =
-        let here : label_at ls head ≡ Some (long_of exits h) = at_row exits rows head h at_head ∙ label_small exits h can.0 in
-        let below : IsBelow (long_of exits (put_before 1 h)) (label_by exits t) =
-        less_below exits (put_before 1 h) t are.rise (held_at exits rows tail t are at_tail) (cost_small h.cost (held.cost can.0)) can.1 in
-        subst (λ (o : Option Label). LowersByOne o (label_at ls tail)) (sym here) (subst (IsBelow (long_of exits (put_before 1 h))) (sym tail_is) below)
-
-    from : CanLower ls tail head → (h.cost < NOTHING) × IsLess (put_before 1 h) t
-    from low =
-        elim (cases_lt h.cost NOTHING) [
-          | inl small ↦
-              let here : label_at ls head ≡ Some (long_of exits h) = at_row exits rows head h at_head ∙ label_small exits h small in
-              let below : IsBelow (long_of exits (put_before 1 h)) (label_at ls tail) = subst (λ (o : Option Label). LowersByOne o (label_at ls tail)) here low in (
-                small,
-                below_less exits (put_before 1 h) t are.rise (held.exit small) (cost_small h.cost (held.cost small)) (subst (IsBelow (long_of exits (put_before 1 h))) tail_is below),
-              )
-          | inr past ↦ absurd (subst (λ (o : Option Label). LowersByOne o (label_at ls tail)) (at_row exits rows head h at_head ∙ label_none exits h past) low)
-        ]
-
 -- a label with an arc put before it, where that is less, lowers the label of the arc's tail
 pub lowered_short : (exits : List Addr) (rows : List Short) (cap : ℕ) (a : Arc) (t h : Short) → AreShort exits rows → slice_get rows a.tail ≡ Some t → slice_get rows a.head ≡ Some h →
     cap ≤ COST_MAX → a.weight + h.cost ≤ cap → IsLess (put_before a.weight h) t →
@@ -153,13 +121,6 @@ lowered_short exits rows cap a t h are at_tail at_head bound within less =
       is = map-set (label_by exits) rows a.tail found ∙ ap (λ (o : Option Label). slice_set (labels_by exits rows) a.tail o) (label_small exits found small);
     }
 
--- above the cap nothing is lowered
-pub above_cap : (exits : List Addr) (rows : List Short) (cap : ℕ) (a : Arc) (h : Short) → slice_get rows a.head ≡ Some h →
-    (a.weight + h.cost ≤ cap → ⊥) → IsRelaxed cap (labels_by exits rows) a
-above_cap exits rows cap a h at_head never rest is within =
-    let has = label_is exits h rest (sym (at_row exits rows a.head h at_head) ∙ is) in
-    absurd (never (omega (arith, within, ap (λ (b : Label). b.cost) has.1)))
-
 -- what is not above a label is at most that
 pub not_below : (b : Label) (o : Option Label) → (IsBelow b o → ⊥) → AtMost o b
 not_below b None never = never tt
@@ -174,6 +135,29 @@ not_below b (Some a) never =
         ]
       ]
     ]
+
+-- where no label within the cap is less, the arc is relaxed
+pub relaxed_short : (exits : List Addr) (rows : List Short) (cap : ℕ) (a : Arc) (t h : Short) → AreShort exits rows → slice_get rows a.tail ≡ Some t → slice_get rows a.head ≡ Some h →
+    cap ≤ COST_MAX → ((a.weight + h.cost ≤ cap) × IsLess (put_before a.weight h) t → ⊥) → IsRelaxed cap (labels_by exits rows) a
+relaxed_short exits rows cap a t h are at_tail at_head bound never rest is within =
+    let found : Short = put_before a.weight h in
+    let has = label_is exits h rest (sym (at_row exits rows a.head h at_head) ∙ is) in
+    let fits : a.weight + h.cost ≤ cap = omega (arith, within, ap (λ (b : Label). b.cost) has.1) in
+    let small : found.cost < NOTHING = omega (arith, cost_small cap bound, fits) in
+    let inside : h.exit < length exits = (held_at exits rows a.head h are at_head).exit has.0 in
+    let most : AtMost (label_by exits t) (long_of exits found) =
+    not_below (long_of exits found) (label_by exits t) (λ below. never (fits, below_less exits found t are.rise inside small below)) in
+    subst (λ (r : Label). AtMost (label_at (labels_by exits rows) a.tail) (joined a r)) has.1
+    (subst (λ (o : Option Label). AtMost o (long_of exits found)) (sym (at_row exits rows a.tail t at_tail)) most)
+
+-- what is told of the lowered label tells whether the arc is relaxed
+pub told_lowers : (exits : List Addr) (rows : List Short) (cap : ℕ) (a : Arc) (t h : Short) (found : Option Short) → AreShort exits rows → slice_get rows a.tail ≡ Some t → slice_get rows a.head ≡ Some h →
+    cap ≤ COST_MAX → SomeIff found ((a.weight + h.cost ≤ cap) × IsLess (put_before a.weight h) t) (put_before a.weight h) →
+    MatchBool (is_some found) (¬ IsRelaxed cap (labels_by exits rows) a) (IsRelaxed cap (labels_by exits rows) a)
+told_lowers exits rows cap a t h None are at_tail at_head bound never = relaxed_short exits rows cap a t h are at_tail at_head bound never
+told_lowers exits rows cap a t h (Some s) are at_tail at_head bound told =
+    low_not_relaxed cap (labels_by exits rows) (labels_by exits (slice_set rows a.tail (put_before a.weight h))) a
+    (lowered_short exits rows cap a t h are at_tail at_head bound told.0.0 told.0.1)
 
 -- a row that is short for a label is written
 pub held_set : (exits : List Addr) (rows : List Short) (i : ℕ) (s : Short) → AreShort exits rows → s.cost ≤ COST_MAX → s.exit < length exits → AreShort exits (slice_set rows i s)

@@ -3,6 +3,8 @@ use Rattle.std.specs.Prelude.{◌≡◌, ◌≢◌, ◌⊎◌, ◌≤◌, ◌<�
 use Rattle.std.specs.declared.option.Option.{Option}
 use Rattle.dom_base.specs.declared.link.Link.{Link}
 use Rattle.dom_base.specs.declared.query.Query.{Query}
+use Rattle.dom_base.specs.declared.query.Metric.{Metric}
+use Rattle.dom_base.specs.Admission.{weight}
 use Rattle.dom_base.specs.declared.query.Label.{Label}
 use Rattle.te_links.specs.Rows.{Rows}
 use Rattle.te_links.specs.Index.{LinkEndsAt}
@@ -13,6 +15,15 @@ use Rattle.path_search.specs.Search.{IsArcOf, IsIdle, AreLabels}
 use Rattle.path_search.specs.Starts.{AreStarts}
 use Rattle.dom_base.specs.declared.query.Seed.{Seed}
 use Rattle.path_search.specs.Front.{is_done, IsFront, Spreads}
+
+-- the arc of the link at this place, admitted or not
+pub record IsArcAt (g : Rows) (m : Metric) (index : ℕ) (a : Arc) : Type 0 where
+  pub same_index : a.link ≡ index
+  pub link : Link
+  pub at_link : slice_get g.links index ≡ Some link
+  pub tail : slice_get g.nodes a.tail ≡ Some link.from
+  pub head : slice_get g.nodes a.head ≡ Some link.to
+  pub weight : a.weight ≡ weight m link
 
 -- the arcs are those of the admitted links among the ones that were read, each once
 pub record IsReading (g : Rows) (q : Query) (arcs : List Arc) (read : List ℕ) : Type 0 where

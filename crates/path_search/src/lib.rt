@@ -2,6 +2,7 @@
 #![tactic(auto)]
 
 mod arc;
+mod arrive;
 mod asked;
 mod blocks;
 mod chosen;

@@ -1,10 +1,8 @@
 //! Labels as pairs of numbers.
-ghost use Rattle.std.specs.Prelude.{◌≡◌, ◌<◌, ◌≤◌, ◌+◌, ◌↔◌, IsTrue, SomeIff};
+ghost use Rattle.std.specs.Prelude.{◌≤◌, ◌+◌, ◌↔◌, IsTrue, SomeIff};
 ghost use Rattle.dom_base.specs.declared.limits.TheConstants.{COST_MAX};
-ghost use Rattle.path_search.specs.declared.blocks.TheConstants.{NOTHING};
 ghost use Rattle.path_search.specs.Short.{IsLess, put_before};
 
-use crate::blocks::NOTHING;
 use dom_base::Cost;
 
 /// A label: its cost, and the place of its exit among the exits. Where the cost is `NOTHING` there
@@ -22,22 +20,8 @@ pub(crate) fn is_less(found: Short, old: Short) -> bool
     found.cost < old.cost || found.cost == old.cost && found.exit < old.exit
 }
 
-/// Whether a label with an arc that weighs 1 put before it is less than what stands at a node.
-pub(crate) fn lowers_by_one(rest: Short, old: Short) -> bool
-    ensures { IsTrue result ↔ ((rest.cost < NOTHING) × IsLess (put_before 1 rest) old) }
-{
-    rest.cost < NOTHING
-        && is_less(
-            Short {
-                cost: 1 + rest.cost,
-                exit: rest.exit,
-            },
-            old,
-        )
-}
-
-/// A label with an arc put before it, where that is within the cap.
-pub(crate) fn join(cap: Cost, weight: u32, rest: Short) -> Option<Short>
+// A label with an arc put before it, where that is within the cap.
+fn join(cap: Cost, weight: u32, rest: Short) -> Option<Short>
     ensures sum { SomeIff result (weight + rest.cost ≤ cap) (put_before weight rest) }
     ensures bound { cap ≤ COST_MAX }
 {
@@ -48,6 +32,22 @@ pub(crate) fn join(cap: Cost, weight: u32, rest: Short) -> Option<Short>
             cost,
             exit: rest.exit,
         })
+    } else {
+        None
+    }
+}
+
+/// A label with an arc put before it, where that is within the cap and less than what stands at the
+/// arc's tail.
+pub(crate) fn lowered(cap: Cost, weight: u32, rest: Short, old: Short) -> Option<Short>
+    ensures sum { SomeIff result ((weight + rest.cost ≤ cap) × IsLess (put_before weight rest) old) (put_before weight rest) }
+    ensures bound { cap ≤ COST_MAX }
+{
+    let Some(found) = join(cap, weight, rest) else {
+        return None;
+    };
+    if is_less(found, old) {
+        Some(found)
     } else {
         None
     }

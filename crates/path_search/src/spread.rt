@@ -1,7 +1,7 @@
 //! Nodes are settled one after another, and the links into each are read.
-ghost use Rattle.std.specs.Prelude.{◌≡◌, ◌<◌, ◌≤◌, ◌+◌, ℕ, length, map, false, All};
+ghost use Rattle.std.specs.Prelude.{◌≡◌, ◌<◌, ◌≤◌, ◌+◌, ℕ, length, map, slice_index_or, false, All};
 ghost use Rattle.te_links.specs.Rows.{IsTopology};
-ghost use Rattle.te_links.specs.Index.{LinkEndsAt};
+ghost use Rattle.te_links.specs.Arrivals.{AreArrivals};
 ghost use Rattle.path_search.specs.Arcs.{IsArcAmong, IsWithin};
 ghost use Rattle.path_search.specs.Asked.{IsAsked};
 ghost use Rattle.path_search.specs.Front.{cost_of, is_done, Spreads};
@@ -9,12 +9,12 @@ ghost use Rattle.path_search.specs.Reached.{ReadsReached};
 ghost use Rattle.path_search.specs.Reading.{SpreadsLink, SpreadsNode, FindsLabels};
 
 use crate::arc::Arc;
+use crate::arrive::arc_of;
 use crate::asked::Asked;
-use crate::find::arc_of;
 use crate::labels::Labels;
 use crate::waiting::Waiting;
 use dom_base::{Cost, Query};
-use te_links::Links;
+use te_links::{Arrivals, Links};
 
 // Relaxes an arc. A node whose label is lowered waits.
 fn spread_arc(cap: Cost, arc: Arc, labels: &mut Labels, waiting: &mut Waiting)
@@ -29,29 +29,28 @@ fn spread_arc(cap: Cost, arc: Arc, labels: &mut Labels, waiting: &mut Waiting)
     }
 }
 
-// Reads a link into the node at a place, and relaxes its arc if it is admitted.
+// Relaxes the arc of a link into the node at a place, if the link is admitted.
 fn spread_link<'a, G: Links<'a>>(
-    links: &mut G,
+    links: &G,
+    arrivals: &Arrivals<'a>,
     query: &Query,
     asked: &Asked,
     head: u32,
-    index: u32,
+    k: usize,
     labels: &mut Labels,
     waiting: &mut Waiting,
 )
-    requires rules { IsTopology (G.rows links.old) }
-    requires asked { IsAsked (G.rows links.old) query.now asked.now }
-    requires index { index < length (G.rows links.old).links }
-    requires ends { LinkEndsAt (G.rows links.old).nodes (G.rows links.old).links head index }
-    requires labels { length labels.old ≡ length (G.rows links.old).nodes }
+    requires rules { IsTopology (G.rows links.now) }
+    requires asked { IsAsked (G.rows links.now) query.now asked.now }
+    requires arrivals { AreArrivals (G.rows links.now) head arrivals.now }
+    requires inside { k < length arrivals.now.places }
+    requires labels { length labels.old ≡ length (G.rows links.now).nodes }
     requires as_long { length waiting.old ≡ length labels.old }
-    ensures spreads { SpreadsLink (G.rows links.old) query.now index labels.old labels.new waiting.old waiting.new }
+    ensures spreads { SpreadsLink (G.rows links.now) query.now (slice_index_or arrivals.now.places k 0) labels.old labels.new waiting.old waiting.new }
     ensures labels { length labels.new ≡ length labels.old }
     ensures waiting { length waiting.new ≡ length waiting.old }
-    ensures same { G.rows links.new ≡ G.rows links.old }
-    ensures reads { G.reads links.new ≤ G.reads links.old + 1 }
 {
-    if let Some(arc) = arc_of(links, query, asked, labels, head, index) {
+    if let Some(arc) = arc_of(links, arrivals, query, asked, labels, head, k) {
         spread_arc(query.cap, arc, labels, waiting);
     }
 }
@@ -75,9 +74,9 @@ pub(crate) fn spread_node<'a, G: Links<'a>>(
     ensures waiting { length waiting.new ≡ length waiting.old }
     ensures same { G.rows links.new ≡ G.rows links.old }
 {
-    let places = links.links_into(place);
-    for index in places {
-        spread_link(links, query, asked, place, *index, labels, waiting);
+    let arrivals = links.read_into(place);
+    for k in 0..arrivals.len() {
+        spread_link(links, &arrivals, query, asked, place, k, labels, waiting);
     }
 }
 

@@ -1,5 +1,5 @@
 -- A request whose item is written.
-use Rattle.std.proofs.Common.{◌≡◌, ℕ, Some, None, List, [], ◌∷◌, length, min, nat_eq, inl, inr, arith, refl, sym, ◌∙◌, ap}
+use Rattle.std.proofs.Common.{◌≡◌, ℕ, Some, None, List, [], ◌∷◌, length, nat_eq, inl, inr, arith, refl, sym, ◌∙◌, ap}
 use Rattle.std.specs.Map.{lookup, set_value}
 use Rattle.std.proofs.lemmas.Bool.{cases_Bool}
 use Rattle.dom_base.specs.Room.{Room}
@@ -64,7 +64,3 @@ written_pending limit given number item rows after are is = rw is (record {
 
 abbrev pub room_at : {T : Type 0} → ℕ → ℕ → List (ℕ × Held T) → ℕ → Room (Pending T)
 room_at limit given rows spare = record { kept = record { limit = limit; given = given; rows = rows }; spare = spare }
-
-pub room_is : {T : Type 0} (limit given before now other number : ℕ) (item : T) (rows after : List (ℕ × Held T)) → after ≡ with_item number item rows → now ≡ before →
-    room_at limit given after (min now other) ≡ room_at limit given (with_item number item rows) (min before other)
-room_is limit given before now other number item rows after is same = rw (is, same) refl

@@ -1,5 +1,5 @@
 -- The requests that are pending, in the order of their numbers.
-use Rattle.std.specs.Prelude.{◌≡◌, ◌⊎◌, ◌≤◌, ◌<◌, ◌&&◌, ◌||◌, ◌==◌, ◌^◌, ◌-◌, ℕ, ◌+◌, Bool, false, nat_eq, nat_le, slice_get, List, [], ◌∷◌, ◌++◌, length, Option, Some, None, if◌then◌else◌}
+use Rattle.std.specs.Prelude.{◌≡◌, ◌⊎◌, ◌≤◌, ◌<◌, ◌&&◌, ◌||◌, ◌==◌, ◌^◌, ◌-◌, ℕ, ◌+◌, Bool, false, nat_eq, nat_le, slice_get, List, [], ◌∷◌, ◌++◌, length, filter, Option, Some, None, if◌then◌else◌}
 use Rattle.std.specs.Option.{option_map}
 use Rattle.std.specs.Map.{lookup, remove_entry}
 use Rattle.dom_base.specs.declared.names.Peer.{Peer}
@@ -38,6 +38,10 @@ number_of pending peer id = number_among (key_of peer id) pending.rows
 -- what belongs to the request of this number
 abbrev pub item_of : {T : Type 0} → Pending T → ℕ → Option T
 item_of pending number = option_map (λ held. held.item) (lookup (nat_eq number) pending.rows)
+
+-- how many requests of a peer there are
+abbrev pub asked_by : {T : Type 0} → Peer → List (ℕ × Held T) → ℕ
+asked_by peer rows = length (filter (λ h. same_peer h.1.key.peer peer) rows)
 
 -- there is no room, or no number, for one more
 abbrev pub IsFull : {T : Type 0} → Pending T → Type 0

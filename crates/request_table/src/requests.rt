@@ -1,11 +1,13 @@
 //! The table of pending requests.
-ghost use Rattle.std.specs.Prelude.{◌≡◌, ◌≢◌, ◌≤◌, ◌<◌, ◌+◌, ◌↔◌, ◌==◌, [], length, slice_get, Err, None, IfOk, OnOk, OnErr, IfErr, IsSome};
+ghost use Rattle.std.specs.Prelude.{◌≡◌, ◌≢◌, ◌≤◌, ◌<◌, ◌+◌, ◌↔◌, ◌==◌, [], length, slice_get, Err, None, IfOk, IsOk, OnOk, OnErr, IfErr, IsSome};
 ghost use Rattle.std.specs.Borrow.{sem};
 ghost use Rattle.std.specs.Option.{option_copied, option_copied_mut, option_map};
-ghost use Rattle.request_table.specs.Pending.{number_of, item_of, key_at, pending_most, opened_of, closed_of, handed_back, IsFull, ArePending};
+ghost use Rattle.request_table.specs.Pending.{asked_by, number_of, item_of, key_at, pending_most, opened_of, closed_of, handed_back, IsFull, ArePending};
 
 use crate::PENDING_MAX;
+use crate::counts::Counts;
 use crate::held::{Held, RequestKey};
+use crate::rows::Rows;
 use dom_base::{NoMemory, Peer};
 use indexmap::IndexMap;
 use std::alloc::Global;
@@ -23,8 +25,9 @@ pub enum OpenError<T> {
 pub struct Requests<T> {
     limit: usize,
     given: u64,
-    rows: IndexMap<u64, Held<T>>,
+    rows: Rows<Held<T>>,
     numbers: IndexMap<RequestKey, u64>,
+    counts: Counts,
 }
 
 // Written, so that it is proved once: a derived one is proved anew in each crate that drops a value.
@@ -35,6 +38,7 @@ impl<T: Drop> Drop for Requests<T> {
             given: _,
             rows: _,
             numbers: _,
+            counts: _,
         } = self;
     }
 }
@@ -70,8 +74,9 @@ impl<T: Drop> Requests<T> {
         Ok(Requests {
             limit,
             given: 0,
-            rows: IndexMap::new(alloc),
+            rows: Rows::new(alloc),
             numbers: IndexMap::new(alloc),
+            counts: Counts::new(alloc),
         })
     }
 
@@ -87,7 +92,7 @@ impl<T: Drop> Requests<T> {
     pub fn is_empty(&self) -> bool
         ensures { result ≡ (length self.now.kept.rows == 0) }
     {
-        self.rows.is_empty()
+        self.rows.len() == 0
     }
 
     /// Makes room for one more.
@@ -96,9 +101,26 @@ impl<T: Drop> Requests<T> {
         ensures ok { OnOk result (1 ≤ self.new.spare) }
         ensures room { self.old.spare ≤ self.new.spare }
     {
-        self.rows.reserve(1)?;
+        self.make_room()
+    }
+
+    // Where there is room, it needs no memory.
+    fn make_room(&mut self) -> Result<(), NoMemory>
+        ensures same { self.new.kept ≡ self.old.kept }
+        ensures ok { OnOk result (1 ≤ self.new.spare) }
+        ensures succeeds { 1 ≤ self.old.spare → IsOk result }
+        ensures room { self.old.spare ≤ self.new.spare }
+    {
+        self.rows.reserve()?;
         self.numbers.reserve(1)?;
-        Ok(())
+        self.counts.reserve()
+    }
+
+    /// How many requests of a peer are pending.
+    pub fn asked_by(&self, peer: Peer) -> usize
+        ensures { result ≡ asked_by peer self.now.kept.rows }
+    {
+        self.counts.of(peer)
     }
 
     /// The number of the request of a peer under an id.
@@ -129,15 +151,13 @@ impl<T: Drop> Requests<T> {
         if self.rows.len() >= self.limit || self.given == u64::MAX {
             return Err(OpenError::Full(item));
         }
-        if self.numbers.reserve(1).is_err() {
+        if self.make_room().is_err() {
             return Err(OpenError::NoMemory(item));
         }
         let key = RequestKey { peer, id };
         let number = self.given + 1;
-        match self.rows.insert(number, Held { key, item }) {
-            Ok(_) => {}
-            Err(refused) => return Err(OpenError::NoMemory(refused.value.1.item)),
-        }
+        self.rows.push(number, Held { key, item });
+        self.counts.add(peer);
         match self.numbers.insert(key, number) {
             Ok(_) => {}
             Err(_) => unreachable!(),
@@ -150,7 +170,7 @@ impl<T: Drop> Requests<T> {
     pub fn get(&self, number: u64) -> Option<&T>
         ensures { option_copied result ≡ item_of self.now.kept number }
     {
-        match self.rows.get(&number) {
+        match self.rows.get(number) {
             Some(held) => Some(&held.item),
             None => None,
         }
@@ -160,7 +180,7 @@ impl<T: Drop> Requests<T> {
     pub fn key(&self, number: u64) -> Option<RequestKey>
         ensures { result ≡ key_at self.now.kept number }
     {
-        match self.rows.get(&number) {
+        match self.rows.get(number) {
             Some(held) => Some(held.key),
             None => None,
         }
@@ -171,7 +191,7 @@ impl<T: Drop> Requests<T> {
         ensures* writes_back { sem 𝓛 (lends_item T.row self.entry number result) }
         ensures value { option_copied_mut result ≡ item_of self.old.kept number }
     {
-        match self.rows.get_mut(&number) {
+        match self.rows.get_mut(number) {
             Some(held) => Some(&mut held.item),
             None => None,
         }
@@ -181,10 +201,7 @@ impl<T: Drop> Requests<T> {
     pub fn row(&self, k: usize) -> Option<(u64, &Held<T>)>
         ensures { option_map (λ row. (row.0, row.1.now)) result ≡ slice_get self.now.kept.rows k }
     {
-        match self.rows.get_index(k) {
-            Some((number, held)) => Some((*number, held)),
-            None => None,
-        }
+        self.rows.at(k)
     }
 
     /// Ends a request, and hands out what belongs to it.
@@ -193,9 +210,10 @@ impl<T: Drop> Requests<T> {
         ensures kept { self.new.kept ≡ closed_of self.old.kept number }
         ensures room { self.old.spare ≤ self.new.spare }
     {
-        let Some(held) = self.rows.shift_remove(&number) else {
+        let Some(held) = self.rows.remove(number) else {
             return None;
         };
+        self.counts.take(held.key.peer);
         let _ = self.numbers.swap_remove(&held.key);
         Some(held.item)
     }

@@ -1,5 +1,6 @@
 -- for readers
 pub mod Desks
+pub mod Sites
 pub mod Sessions
 pub mod Serving
 pub mod Charts

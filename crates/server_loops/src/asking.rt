@@ -2,6 +2,7 @@
 ghost use Rattle.std.specs.Prelude.{◌≡◌};
 ghost use Rattle.std.specs.Arc.{arc_value};
 ghost use Rattle.server_loops.specs.OperatorSteps.{Acted, Asked, answered};
+ghost use Rattle.server_loops.specs.Sites.{Stays};
 
 use crate::charts::Chart;
 use crate::desks::DeskRefused;
@@ -13,7 +14,8 @@ use te_links::Topology;
 
 /// The current topology of an element, with its number.
 pub(crate) fn ask<D: Chart>(desk: &mut D, at: As) -> Result<Option<(u64, Arc<Topology>)>, Operated>
-    ensures { Asked at (answered arc_value result) (D.charted desk.old) (D.charted desk.new) }
+    ensures asked { Asked at (answered arc_value result) (D.charted desk.old) (D.charted desk.new) }
+    ensures stays { Stays D.is_at desk.old desk.new }
 {
     let found = desk.map(at)?;
     match desk.spent() {
@@ -29,7 +31,8 @@ pub(crate) fn act<D: Chart>(
     topology: Topology,
 ) -> Result<Result<Outcome, Refused>, Operated>
     requires own { topology.own ≡ at }
-    ensures { Acted at topology result (D.charted desk.old) (D.charted desk.new) }
+    ensures acted { Acted at topology result (D.charted desk.old) (D.charted desk.new) }
+    ensures stays { Stays D.is_at desk.old desk.new }
 {
     match desk.act(Event::Load(at, topology)) {
         Ok(outcome) => Ok(Ok(outcome)),

@@ -1,6 +1,7 @@
 //! What carries messages between elements.
 ghost use Rattle.std.specs.Prelude.{◌≡◌, ◌<◌, ◌↔◌, ℕ, Some, length};
 ghost use Rattle.server_loops.specs.Serving.{CarriesGuided, CarriesLinks};
+ghost use Rattle.server_loops.specs.Sites.{Stays};
 ghost use Rattle.server_loops.specs.declared.port.Ran.TheVariants.{Spent as SpentAt};
 ghost use Rattle.server_loops.specs.Steps.{IsCarried, IsCarriedOf, IsRound, carried_at};
 
@@ -12,7 +13,8 @@ use plant_model::{Event, Outcome};
 
 // One Carry, unless the desk is spent.
 fn carry<D: Desk>(desk: &mut D, from: As, to: As) -> Result<(), u64>
-    ensures { IsCarried from to result (D.desked desk.old) (D.desked desk.new) }
+    ensures carried { IsCarried from to result (D.desked desk.old) (D.desked desk.new) }
+    ensures stays { Stays D.is_at desk.old desk.new }
 {
     match desk.act(Event::Carry(from, to)) {
         Err(DeskRefused::Spent(number)) => Err(number),
@@ -23,7 +25,8 @@ fn carry<D: Desk>(desk: &mut D, from: As, to: As) -> Result<(), u64>
 // One Carry for each pair, in order, unless the desk is spent.
 #[tactic(auto, using(crate::proofs::Rounds::none_carried, crate::proofs::Rounds::all_carried))]
 fn carry_round<D: Desk>(desk: &mut D, links: &[(As, As)]) -> Result<(), u64>
-    ensures { IsRound links.now result (D.desked desk.old) (D.desked desk.new) }
+    ensures round { IsRound links.now result (D.desked desk.old) (D.desked desk.new) }
+    ensures stays { Stays D.is_at desk.old desk.new }
 {
     for (from, to) in links {
         carry(desk, *from, *to)?;
@@ -46,6 +49,7 @@ fn ended<D: Desk>(desk: &D) -> Ran
 #[tactic(auto, using(crate::proofs::Rounds::idly_made, crate::proofs::Rounds::none_made, crate::proofs::Rounds::one_made, crate::proofs::Rounds::whole_made, crate::proofs::Rounds::cut_made))]
 pub fn carry_links<D: Desk>(desk: &mut D, links: &[(As, As)], turns: u64) -> Ran
     ensures carries { CarriesLinks links.now turns result (D.desked desk.old) (D.desked desk.new) }
+    ensures stays { Stays D.is_at desk.old desk.new }
     ensures spent { (t : ℕ) → (result ≡ SpentAt t) ↔ ((D.desked desk.new).spent ≡ Some t) }
 {
     if links.is_empty() {
@@ -87,7 +91,8 @@ fn carried_at(place: usize, answer: Result<Outcome, DeskRefused>) -> Result<usiz
 // One Carry of a pair, for which the desk as a guide is asked, unless the desk is spent. Answers the pair's place.
 fn carry_next<D: Desk + Guide>(desk: &mut D, links: &[(As, As)], last: usize) -> Result<usize, u64>
     requires some { 0 < length links.now }
-    ensures { IsCarriedOf links.now result (D.desked desk.old) (D.desked desk.new) }
+    ensures carried { IsCarriedOf links.now result (D.desked desk.old) (D.desked desk.new) }
+    ensures stays { Stays D.is_at desk.old desk.new }
 {
     let place = place_below(desk.next_way(links.len(), last), links.len());
     let (from, to) = links[place];
@@ -101,6 +106,7 @@ fn carry_next<D: Desk + Guide>(desk: &mut D, links: &[(As, As)], last: usize) ->
 #[tactic(auto, using(crate::proofs::Guided::none_guided, crate::proofs::Guided::one_guided, crate::proofs::Guided::all_guided, crate::proofs::Guided::cut_guided, crate::proofs::Guided::idly_guided))]
 pub fn carry_guided<D: Desk + Guide>(desk: &mut D, links: &[(As, As)], turns: u64) -> Ran
     ensures carries { CarriesGuided links.now turns result (D.desked desk.old) (D.desked desk.new) }
+    ensures stays { Stays D.is_at desk.old desk.new }
     ensures spent { (t : ℕ) → (result ≡ SpentAt t) ↔ ((D.desked desk.new).spent ≡ Some t) }
 {
     if links.is_empty() {

@@ -4,6 +4,7 @@ ghost use Rattle.ted_watch.specs.Watch.{list_of, published};
 ghost use Rattle.server_loops.specs.Operating.{AreOfElements, Does, DoesAsked, context, line_most, past, progress};
 ghost use Rattle.plant_text.specs.OperatorLines.{line_in};
 ghost use Rattle.server_loops.specs.OperatorSteps.{EndsAs, Goes, IsBegun, file_of, text_of};
+ghost use Rattle.server_loops.specs.Sites.{Stays};
 ghost use Rattle.server_loops.specs.Texts.{bad_line_text, too_large_text};
 ghost use Rattle.server_loops.specs.declared.operating.Operated.TheVariants.{NoMemory};
 
@@ -138,6 +139,7 @@ fn do_asked<T: Store, D: Chart, R: Wait + Drop>(
     requires elements { AreOfElements network.now (published publisher.old) }
     requires fresh { (D.charted desk.old).spent ≡ None }
     ensures goes { Goes (DoesAsked (context network.now (T.files store.old)) number (Some (Some asked)) (progress (D.charted desk.old) (published publisher.old) (T.faults store.old) (T.failed_at store.old)) (progress (D.charted desk.new) (published publisher.new) (T.faults store.new) (T.failed_at store.new))) result (past (D.charted desk.old) (published publisher.old)) (past (D.charted desk.new) (published publisher.new)) (D.charted desk.new).spent into.old.items into.new.items }
+    ensures stays { Stays D.is_at desk.old desk.new }
     ensures elements { AreOfElements network.now (published publisher.new) }
     ensures list { list_of publisher.new ≡ list_of publisher.old }
     ensures later { T.faults store.old ≤ T.faults store.new }
@@ -172,6 +174,7 @@ fn do_text<T: Store, D: Chart, R: Wait + Drop>(
     requires elements { AreOfElements network.now (published publisher.old) }
     requires fresh { (D.charted desk.old).spent ≡ None }
     ensures goes { Goes (DoesAsked (context network.now (T.files store.old)) number (line_in network.now text.now) (progress (D.charted desk.old) (published publisher.old) (T.faults store.old) (T.failed_at store.old)) (progress (D.charted desk.new) (published publisher.new) (T.faults store.new) (T.failed_at store.new))) result (past (D.charted desk.old) (published publisher.old)) (past (D.charted desk.new) (published publisher.new)) (D.charted desk.new).spent into.old.items into.new.items }
+    ensures stays { Stays D.is_at desk.old desk.new }
     ensures elements { AreOfElements network.now (published publisher.new) }
     ensures list { list_of publisher.new ≡ list_of publisher.old }
     ensures later { T.faults store.old ≤ T.faults store.new }
@@ -210,6 +213,7 @@ pub(crate) fn do_line<T: Store, D: Chart, R: Wait + Drop>(
     requires fresh { (D.charted desk.old).spent ≡ None }
     ensures goes { (line : List ℕ) → IsBegun begun.now.bytes.items begun.now.is_long line → Goes (Does (context network.now (T.files store.old)) number (text_of has_end line) (progress (D.charted desk.old) (published publisher.old) (T.faults store.old) (T.failed_at store.old)) (progress (D.charted desk.new) (published publisher.new) (T.faults store.new) (T.failed_at store.new))) result (past (D.charted desk.old) (published publisher.old)) (past (D.charted desk.new) (published publisher.new)) (D.charted desk.new).spent into.old.items into.new.items }
     ensures ends { EndsAs result (D.charted desk.new).spent }
+    ensures stays { Stays D.is_at desk.old desk.new }
     ensures elements { AreOfElements network.now (published publisher.new) }
     ensures list { list_of publisher.new ≡ list_of publisher.old }
     ensures later { T.faults store.old ≤ T.faults store.new }

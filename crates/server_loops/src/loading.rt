@@ -7,6 +7,7 @@ ghost use Rattle.server_loops.specs.Operating.{AreOfElements, ChangesFile, Loads
 ghost use Rattle.server_loops.specs.declared.operating.Operated.TheVariants.{NoMemory};
 ghost use Rattle.transcript.specs.Lines.{answer_line};
 ghost use Rattle.server_loops.specs.OperatorSteps.{DoesFile, Goes, GoesFrom, IsFile, Refuses};
+ghost use Rattle.server_loops.specs.Sites.{Stays};
 
 use crate::asking::{act, ask};
 use crate::charts::Chart;
@@ -73,6 +74,7 @@ fn load<D: Chart, R: Wait + Drop>(
     requires elements { AreOfElements network.now (published publisher.old) }
     requires own { topology.own ≡ line.at }
     ensures goes { Goes (Loads network.now line.entry.number line.entry.at topology (published publisher.old) []) result (past (D.charted desk.old) (published publisher.old)) (past (D.charted desk.new) (published publisher.new)) (D.charted desk.new).spent into.old.items into.new.items }
+    ensures stays { Stays D.is_at desk.old desk.new }
     ensures elements { AreOfElements network.now (published publisher.new) }
     ensures list { list_of publisher.new ≡ list_of publisher.old }
 {
@@ -130,6 +132,7 @@ fn load_text<D: Chart, R: Wait + Drop>(
     requires fresh { (D.charted desk.old).spent ≡ None }
     requires short { length file.now ≤ change_file_most }
     ensures goes { Goes (LoadsFile network.now line.entry.number line.entry.at line.entry.name.now file.now (published publisher.old)) result (past (D.charted desk.old) (published publisher.old)) (past (D.charted desk.new) (published publisher.new)) (D.charted desk.new).spent into.old.items into.new.items }
+    ensures stays { Stays D.is_at desk.old desk.new }
     ensures elements { AreOfElements network.now (published publisher.new) }
     ensures list { list_of publisher.new ≡ list_of publisher.old }
 {
@@ -156,6 +159,7 @@ fn load_changed<D: Chart, R: Wait + Drop>(
     requires short { length file.now ≤ change_file_most }
     requires says { text_in file.now ≡ Ok changes.now }
     ensures goes { (k : ℕ) → GoesFrom (Mapped line.entry.at (Ok (Some (k, topology.now))) ∷ []) (ChangesFile network.now line.entry.number line.entry.at line.entry.name.now file.now (published publisher.old)) result (past (D.charted desk.old) (published publisher.old)) (past (D.charted desk.new) (published publisher.new)) (D.charted desk.new).spent into.old.items into.new.items }
+    ensures stays { Stays D.is_at desk.old desk.new }
     ensures elements { AreOfElements network.now (published publisher.new) }
     ensures list { list_of publisher.new ≡ list_of publisher.old }
 {
@@ -180,6 +184,7 @@ fn change_current<D: Chart, R: Wait + Drop>(
     requires short { length file.now ≤ change_file_most }
     requires says { text_in file.now ≡ Ok changes.now }
     ensures goes { Goes (ChangesFile network.now line.entry.number line.entry.at line.entry.name.now file.now (published publisher.old)) result (past (D.charted desk.old) (published publisher.old)) (past (D.charted desk.new) (published publisher.new)) (D.charted desk.new).spent into.old.items into.new.items }
+    ensures stays { Stays D.is_at desk.old desk.new }
     ensures elements { AreOfElements network.now (published publisher.new) }
     ensures list { list_of publisher.new ≡ list_of publisher.old }
 {
@@ -206,6 +211,7 @@ fn change_text<D: Chart, R: Wait + Drop>(
     requires fresh { (D.charted desk.old).spent ≡ None }
     requires short { length file.now ≤ change_file_most }
     ensures goes { Goes (ChangesFile network.now line.entry.number line.entry.at line.entry.name.now file.now (published publisher.old)) result (past (D.charted desk.old) (published publisher.old)) (past (D.charted desk.new) (published publisher.new)) (D.charted desk.new).spent into.old.items into.new.items }
+    ensures stays { Stays D.is_at desk.old desk.new }
     ensures elements { AreOfElements network.now (published publisher.new) }
     ensures list { list_of publisher.new ≡ list_of publisher.old }
 {
@@ -237,6 +243,7 @@ pub(crate) fn do_file<T: Store, D: Chart, R: Wait + Drop>(
     requires elements { AreOfElements network.now (published publisher.old) }
     requires fresh { (D.charted desk.old).spent ≡ None }
     ensures goes { Goes (DoesFile (context network.now (T.files store.old)) line.entry.number (Some (line.entry.is_change, line.entry.at, line.entry.name.now)) (progress (D.charted desk.old) (published publisher.old) (T.faults store.old) (T.failed_at store.old)) (progress (D.charted desk.new) (published publisher.new) (T.faults store.new) (T.failed_at store.new))) result (past (D.charted desk.old) (published publisher.old)) (past (D.charted desk.new) (published publisher.new)) (D.charted desk.new).spent into.old.items into.new.items }
+    ensures stays { Stays D.is_at desk.old desk.new }
     ensures elements { AreOfElements network.now (published publisher.new) }
     ensures list { list_of publisher.new ≡ list_of publisher.old }
     ensures later { T.faults store.old ≤ T.faults store.new }

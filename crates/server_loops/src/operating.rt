@@ -3,6 +3,7 @@ ghost use Rattle.std.specs.Prelude.{◌≡◌, ◌↔◌, ℕ, List, None, Some}
 ghost use Rattle.ted_watch.specs.Watch.{list_of, published};
 ghost use Rattle.server_loops.specs.Operating.{AreOfElements, Operates, context, side, sides, progress};
 ghost use Rattle.server_loops.specs.OperatorSteps.{Finishes, IsBegun, IsTurned, Leaves, LeavesBy, begun as begun_of};
+ghost use Rattle.server_loops.specs.Sites.{Stays};
 ghost use Rattle.server_loops.specs.declared.operating.Operated.TheVariants.{Spent as SpentAt};
 
 use crate::charts::Chart;
@@ -49,6 +50,7 @@ fn finish<T: Store, K: Sink, D: Chart, R: Wait + Drop>(
     requires fresh { (D.charted desk.old).spent ≡ None }
     ensures ends { (line : List ℕ) → IsBegun begun.old.bytes.items begun.old.is_long line → Finishes (context network.now (T.files store.old)) result line begun.old.before (progress (D.charted desk.old) (published publisher.old) (T.faults store.old) (T.failed_at store.old)) (progress (D.charted desk.new) (published publisher.new) (T.faults store.new) (T.failed_at store.new)) (side (K.written out.old) (K.faults out.old)) (side (K.written out.new) (K.faults out.new)) }
     ensures leaves { Leaves result (D.charted desk.new).spent }
+    ensures stays { Stays D.is_at desk.old desk.new }
     ensures elements { AreOfElements network.now (published publisher.new) }
     ensures list { list_of publisher.new ≡ list_of publisher.old }
     ensures files { T.files store.new ≡ T.files store.old }
@@ -81,6 +83,7 @@ fn turn<T: Store, I: Source, K: Sink, D: Chart, R: Wait + Drop>(
         (sides (side (I.left input.old) (I.faults input.old)) (side (K.written out.old) (K.faults out.old)))
         (sides (side (I.left input.new) (I.faults input.new)) (side (K.written out.new) (K.faults out.new))) }
     ensures leaves { LeavesBy result (D.charted desk.new).spent }
+    ensures stays { Stays D.is_at desk.old desk.new }
     ensures elements { AreOfElements network.now (published publisher.new) }
     ensures list { list_of publisher.new ≡ list_of publisher.old }
     ensures files { T.files store.new ≡ T.files store.old }
@@ -123,6 +126,7 @@ fn run<T: Store, I: Source, K: Sink, D: Chart, R: Wait + Drop>(
         (sides (side (I.left input.old) (I.faults input.old)) (side (K.written out.old) (K.faults out.old)))
         (sides (side (I.left input.new) (I.faults input.new)) (side (K.written out.new) (K.faults out.new))) }
     ensures leaves { Leaves result (D.charted desk.new).spent }
+    ensures stays { Stays D.is_at desk.old desk.new }
     ensures elements { AreOfElements network.now (published publisher.new) }
     ensures list { list_of publisher.new ≡ list_of publisher.old }
     ensures files { T.files store.new ≡ T.files store.old }
@@ -162,6 +166,7 @@ pub fn operate<T: Store, I: Source, K: Sink, D: Chart, R: Wait + Drop>(
         (sides (side (I.left input.old) (I.faults input.old)) (side (K.written out.old) (K.faults out.old)))
         (sides (side (I.left input.new) (I.faults input.new)) (side (K.written out.new) (K.faults out.new))) }
     ensures spent { (t : ℕ) → (result ≡ SpentAt t) ↔ ((D.charted desk.new).spent ≡ Some t) }
+    ensures stays { Stays D.is_at desk.old desk.new }
     ensures elements { AreOfElements network.now (published publisher.new) }
     ensures list { list_of publisher.new ≡ list_of publisher.old }
     ensures files { T.files store.new ≡ T.files store.old }

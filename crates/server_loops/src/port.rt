@@ -1,6 +1,7 @@
 //! A port that serves one connection after the other.
 ghost use Rattle.std.specs.Prelude.{◌≡◌, ◌↔◌, ℕ, Some};
 ghost use Rattle.server_loops.specs.Serving.{heard, ServesPort};
+ghost use Rattle.server_loops.specs.Sites.{Stays};
 ghost use Rattle.server_loops.specs.Steps.{IsHosted};
 ghost use Rattle.server_loops.specs.declared.port.Ran.TheVariants.{Spent as SpentAt};
 
@@ -29,6 +30,7 @@ fn accept_once<K: Listener, D: Desk>(
     listener: &mut K,
 ) -> u32
     ensures hosted { IsHosted peer holder result (D.desked desk.old) (D.desked desk.new) (heard (K.faults listener.old) (K.quiets listener.old) (K.handed listener.old)) (heard (K.faults listener.new) (K.quiets listener.new) (K.handed listener.new)) }
+    ensures stays { Stays D.is_at desk.old desk.new }
     ensures port { K.opened_at listener.new ≡ K.opened_at listener.old }
     ensures heeds { K.heeds listener.new ≡ K.heeds listener.old }
     ensures dials { K.dialled_to listener.new ≡ K.dialled_to listener.old }
@@ -53,6 +55,7 @@ pub fn serve_port<K: Listener, D: Desk>(
     turns: u64,
 ) -> Ran
     ensures serves { ServesPort peer turns result (D.desked desk.old) (D.desked desk.new) (heard (K.faults listener.old) (K.quiets listener.old) (K.handed listener.old)) (heard (K.faults listener.new) (K.quiets listener.new) (K.handed listener.new)) }
+    ensures stays { Stays D.is_at desk.old desk.new }
     ensures spent { (t : ℕ) → (result ≡ SpentAt t) ↔ ((D.desked desk.new).spent ≡ Some t) }
     ensures port { K.opened_at listener.new ≡ K.opened_at listener.old }
     ensures heeds { K.heeds listener.new ≡ K.heeds listener.old }

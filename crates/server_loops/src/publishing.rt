@@ -7,6 +7,7 @@ ghost use Rattle.plant_text.specs.Settings.{is_element};
 ghost use Rattle.ted_watch.specs.Watch.{published, list_of};
 ghost use Rattle.ted_watch.specs.Published.{generation_of, last_of};
 ghost use Rattle.server_loops.specs.Operating.{AreOfElements, Publishes, entry_of, is_newer, past};
+ghost use Rattle.server_loops.specs.Sites.{Stays};
 ghost use Rattle.server_loops.specs.declared.operating.Operated.TheVariants.{NoMemory};
 
 use crate::asking::ask;
@@ -83,6 +84,7 @@ fn publish_element<D: Chart, R: Wait + Drop>(
     requires elements { AreOfElements network.now (published publisher.old) }
     requires element { is_element network.now at ≡ true }
     ensures publishes { Publishes result at true (past (D.charted desk.old) (published publisher.old)) (past (D.charted desk.new) (published publisher.new)) (D.charted desk.new).spent }
+    ensures stays { Stays D.is_at desk.old desk.new }
     ensures elements { AreOfElements network.now (published publisher.new) }
     ensures list { list_of publisher.new ≡ list_of publisher.old }
 {
@@ -106,6 +108,7 @@ pub fn publish<D: Chart, R: Wait + Drop>(
     requires elements { AreOfElements network.now (published publisher.old) }
     requires fresh { (D.charted desk.old).spent ≡ None }
     ensures publishes { Publishes result at (is_element network.now at) (past (D.charted desk.old) (published publisher.old)) (past (D.charted desk.new) (published publisher.new)) (D.charted desk.new).spent }
+    ensures stays { Stays D.is_at desk.old desk.new }
     ensures elements { AreOfElements network.now (published publisher.new) }
     ensures list { list_of publisher.new ≡ list_of publisher.old }
 {
@@ -127,6 +130,7 @@ pub(crate) fn publish_loaded<D: Chart, R: Wait + Drop>(
     requires elements { AreOfElements network.now (published publisher.old) }
     requires fresh { (D.charted desk.old).spent ≡ None }
     ensures publishes { Publishes result at (is_accepted && is_element network.now at) (past (D.charted desk.old) (published publisher.old)) (past (D.charted desk.new) (published publisher.new)) (D.charted desk.new).spent }
+    ensures stays { Stays D.is_at desk.old desk.new }
     ensures elements { AreOfElements network.now (published publisher.new) }
     ensures list { list_of publisher.new ≡ list_of publisher.old }
 {

@@ -2,6 +2,7 @@
 ghost use Rattle.std.specs.Prelude.{◌≡◌, ◌≤◌, ◌<◌, ◌↔◌, ℕ, length, IfOk, Some, None};
 ghost use Rattle.dom_edge.specs.Heeding.{sides};
 ghost use Rattle.server_loops.specs.Sessions.{Serves};
+ghost use Rattle.server_loops.specs.Sites.{Stays};
 ghost use Rattle.server_loops.specs.Steps.{AreServed, IsEndOfOpen, IsClosedBy, shown};
 ghost use Rattle.server_loops.specs.declared.sessions.Ended.TheVariants.{Spent as SpentAt};
 
@@ -51,7 +52,8 @@ fn serve_turns<L: Wire, D: Desk>(
 ) -> Ended
     requires unspent { (D.desked desk.old).spent ≡ None }
     requires room { length buffer.old ≡ 65536 }
-    ensures { AreServed peer holder turns result (D.desked desk.old) (D.desked desk.new) (sides (L.reading link.old) (L.writing link.old)) (sides (L.reading link.new) (L.writing link.new)) }
+    ensures served { AreServed peer holder turns result (D.desked desk.old) (D.desked desk.new) (sides (L.reading link.old) (L.writing link.old)) (sides (L.reading link.new) (L.writing link.new)) }
+    ensures stays { Stays D.is_at desk.old desk.new }
 {
     for _turn in 0..turns {
         if let Err(end) = turn(alloc, desk, peer, holder, link, buffer) {
@@ -72,7 +74,8 @@ fn serve_open<L: Wire, D: Desk>(
     turns: u64,
 ) -> Ended
     requires { (D.desked desk.old).spent ≡ None }
-    ensures { AreServed peer holder turns result (D.desked desk.old) (D.desked desk.new) (sides (L.reading link.old) (L.writing link.old)) (sides (L.reading link.new) (L.writing link.new)) }
+    ensures served { AreServed peer holder turns result (D.desked desk.old) (D.desked desk.new) (sides (L.reading link.old) (L.writing link.old)) (sides (L.reading link.new) (L.writing link.new)) }
+    ensures stays { Stays D.is_at desk.old desk.new }
 {
     let Ok(mut buffer) = room(alloc) else {
         return Ended::NoMemory;
@@ -103,7 +106,8 @@ fn unopened(why: DeskRefused) -> Ended
 // Shuts the connection at the end of a session, but not where it was lost or the desk is spent.
 fn shut<D: Desk>(desk: &mut D, peer: u32, end: Ended) -> Ended
     requires { (D.desked desk.old).spent ≡ shown end }
-    ensures { IsClosedBy peer end result (D.desked desk.old) (D.desked desk.new) }
+    ensures closed { IsClosedBy peer end result (D.desked desk.old) (D.desked desk.new) }
+    ensures stays { Stays D.is_at desk.old desk.new }
 {
     match end {
         Ended::Lost(_) | Ended::Spent(_) => end,
@@ -132,6 +136,7 @@ pub fn serve_session<L: Wire, D: Desk>(
     turns: u64,
 ) -> Ended
     ensures serves { Serves peer holder turns result (D.desked desk.old) (D.desked desk.new) (sides (L.reading link.old) (L.writing link.old)) (sides (L.reading link.new) (L.writing link.new)) }
+    ensures stays { Stays D.is_at desk.old desk.new }
     ensures spent { (t : ℕ) → (result ≡ SpentAt t) ↔ ((D.desked desk.new).spent ≡ Some t) }
 {
     if let Err(why) = desk.act(Event::Open(peer, holder)) {

@@ -3,6 +3,7 @@ ghost use Rattle.std.specs.Prelude.{◌≡◌, ◌∷◌, [], ℕ, List, None};
 ghost use Rattle.ted_watch.specs.Watch.{list_of, published};
 ghost use Rattle.server_loops.specs.Operating.{AreOfElements, IsSaid, context, progress, side};
 ghost use Rattle.server_loops.specs.OperatorSteps.{EndsLine, Feeds, IsBegun, Lasts, begun as begun_of};
+ghost use Rattle.server_loops.specs.Sites.{Stays};
 
 use crate::charts::Chart;
 use crate::lines::{Begun, do_line};
@@ -35,6 +36,7 @@ pub(crate) fn end_line<T: Store, K: Sink, D: Chart, R: Wait + Drop>(
     requires fresh { (D.charted desk.old).spent ≡ None }
     ensures ends { (line : List ℕ) → IsBegun begun.old.bytes.items begun.old.is_long line → EndsLine (context network.now (T.files store.old)) has_end line result (begun_of begun.old.before begun.old.bytes.items begun.old.is_long) (begun_of begun.new.before begun.new.bytes.items begun.new.is_long) (progress (D.charted desk.old) (published publisher.old) (T.faults store.old) (T.failed_at store.old)) (progress (D.charted desk.new) (published publisher.new) (T.faults store.new) (T.failed_at store.new)) (side (K.written out.old) (K.faults out.old)) (side (K.written out.new) (K.faults out.new)) }
     ensures lasts { Lasts result (D.charted desk.new).spent }
+    ensures stays { Stays D.is_at desk.old desk.new }
     ensures elements { AreOfElements network.now (published publisher.new) }
     ensures list { list_of publisher.new ≡ list_of publisher.old }
     ensures files { T.files store.new ≡ T.files store.old }
@@ -65,6 +67,7 @@ fn take_byte<T: Store, K: Sink, D: Chart, R: Wait + Drop>(
     requires fresh { (D.charted desk.old).spent ≡ None }
     ensures feeds { (line : List ℕ) → IsBegun begun.old.bytes.items begun.old.is_long line → Feeds (context network.now (T.files store.old)) (byte ∷ []) result line (begun_of begun.old.before begun.old.bytes.items begun.old.is_long) (begun_of begun.new.before begun.new.bytes.items begun.new.is_long) (progress (D.charted desk.old) (published publisher.old) (T.faults store.old) (T.failed_at store.old)) (progress (D.charted desk.new) (published publisher.new) (T.faults store.new) (T.failed_at store.new)) (side (K.written out.old) (K.faults out.old)) (side (K.written out.new) (K.faults out.new)) }
     ensures lasts { Lasts result (D.charted desk.new).spent }
+    ensures stays { Stays D.is_at desk.old desk.new }
     ensures elements { AreOfElements network.now (published publisher.new) }
     ensures list { list_of publisher.new ≡ list_of publisher.old }
     ensures files { T.files store.new ≡ T.files store.old }
@@ -91,6 +94,7 @@ pub(crate) fn take_piece<T: Store, K: Sink, D: Chart, R: Wait + Drop>(
     requires fresh { (D.charted desk.old).spent ≡ None }
     ensures feeds { (line : List ℕ) → IsBegun begun.old.bytes.items begun.old.is_long line → Feeds (context network.now (T.files store.old)) piece.now result line (begun_of begun.old.before begun.old.bytes.items begun.old.is_long) (begun_of begun.new.before begun.new.bytes.items begun.new.is_long) (progress (D.charted desk.old) (published publisher.old) (T.faults store.old) (T.failed_at store.old)) (progress (D.charted desk.new) (published publisher.new) (T.faults store.new) (T.failed_at store.new)) (side (K.written out.old) (K.faults out.old)) (side (K.written out.new) (K.faults out.new)) }
     ensures lasts { Lasts result (D.charted desk.new).spent }
+    ensures stays { Stays D.is_at desk.old desk.new }
     ensures elements { AreOfElements network.now (published publisher.new) }
     ensures list { list_of publisher.new ≡ list_of publisher.old }
     ensures files { T.files store.new ≡ T.files store.old }

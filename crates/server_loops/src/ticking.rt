@@ -2,6 +2,7 @@
 ghost use Rattle.std.specs.Prelude.{◌≡◌};
 ghost use Rattle.dom_edge.specs.Causes.{counted_on};
 ghost use Rattle.server_loops.specs.Serving.{TellsTime};
+ghost use Rattle.server_loops.specs.Sites.{Stays};
 ghost use Rattle.server_loops.specs.Steps.{IsTold};
 
 use crate::desks::Desk;
@@ -11,7 +12,8 @@ use plant_model::Event;
 
 // Tells a reading that is above the last one that was told, and returns the last one by then.
 fn tell<D: Desk>(desk: &mut D, told: u64, now: Tick) -> u64
-    ensures { IsTold told now.0 result (D.desked desk.old) (D.desked desk.new) }
+    ensures told { IsTold told now.0 result (D.desked desk.old) (D.desked desk.new) }
+    ensures stays { Stays D.is_at desk.old desk.new }
 {
     if now.0 <= told {
         return told;
@@ -24,6 +26,7 @@ fn tell<D: Desk>(desk: &mut D, told: u64, now: Tick) -> u64
 #[tactic(auto, using(crate::proofs::Telling::none_told, crate::proofs::Telling::all_told))]
 pub fn tick_on<D: Desk, C: Clock>(desk: &mut D, clock: &mut C, turns: u64)
     ensures tells { TellsTime turns (D.desked desk.old) (D.desked desk.new) (C.last clock.old) (C.last clock.new) }
+    ensures stays { Stays D.is_at desk.old desk.new }
     ensures counted { C.readings clock.new ≡ counted_on turns (C.readings clock.old) }
 {
     let mut told = 0u64;

@@ -1,6 +1,7 @@
 //! One turn of a session.
 ghost use Rattle.std.specs.Prelude.{◌≡◌, length, None};
 ghost use Rattle.dom_edge.specs.Heeding.{sides};
+ghost use Rattle.server_loops.specs.Sites.{Stays};
 ghost use Rattle.server_loops.specs.Steps.{IsEndOf, IsHandedOn, Drains, IsHanded, IsTaken, IsReceived, IsTurned};
 
 use crate::desks::{Desk, DeskRefused};
@@ -39,6 +40,7 @@ fn hand_on<L: Wire>(link: &mut L, bytes: &Bytes, ended: bool) -> Result<(), Ende
 // Drains, and writes all that this hands out.
 fn drain<L: Wire, D: Desk>(desk: &mut D, peer: u32, holder: u32, link: &mut L) -> Result<(), Ended>
     ensures drains { Drains peer holder result (D.desked desk.old) (D.desked desk.new) (sides (L.reading link.old) (L.writing link.old)) (sides (L.reading link.new) (L.writing link.new)) }
+    ensures stays { Stays D.is_at desk.old desk.new }
     ensures reading { L.reading link.new ≡ L.reading link.old }
 {
     match desk.act(Event::Drain(peer, holder)) {
@@ -51,7 +53,8 @@ fn drain<L: Wire, D: Desk>(desk: &mut D, peer: u32, holder: u32, link: &mut L) -
 // Feeds a piece that was read.
 fn feed<D: Desk>(alloc: Global, desk: &mut D, peer: u32, piece: &[u8]) -> Result<(), Ended>
     requires { (D.desked desk.old).spent ≡ None }
-    ensures { IsHanded peer piece.now result (D.desked desk.old) (D.desked desk.new) }
+    ensures handed { IsHanded peer piece.now result (D.desked desk.old) (D.desked desk.new) }
+    ensures stays { Stays D.is_at desk.old desk.new }
 {
     let Ok(piece) = piece.to_vec(alloc) else {
         return Err(Ended::NoMemory);
@@ -66,7 +69,8 @@ fn feed<D: Desk>(alloc: Global, desk: &mut D, peer: u32, piece: &[u8]) -> Result
 #[tactic(auto, using(crate::proofs::Turning::none_taken, crate::proofs::Turning::one_taken, crate::proofs::Turning::taken_last, crate::proofs::Turning::taken_until, crate::proofs::Turning::taken_cut, crate::proofs::Turning::all_taken))]
 fn take_all<D: Desk>(desk: &mut D, peer: u32) -> Result<(), Ended>
     requires { (D.desked desk.old).spent ≡ None }
-    ensures { IsTaken peer result (D.desked desk.old) (D.desked desk.new) }
+    ensures taken { IsTaken peer result (D.desked desk.old) (D.desked desk.new) }
+    ensures stays { Stays D.is_at desk.old desk.new }
 {
     for _take in 0..TAKES_MAX {
         match desk.take(peer) {
@@ -88,7 +92,8 @@ fn receive<L: Wire, D: Desk>(
 ) -> Result<(), Ended>
     requires unspent { (D.desked desk.old).spent ≡ None }
     requires room { length buffer.old ≡ 65536 }
-    ensures { IsReceived peer result (D.desked desk.old) (D.desked desk.new) (sides (L.reading link.old) (L.writing link.old)) (sides (L.reading link.new) (L.writing link.new)) }
+    ensures received { IsReceived peer result (D.desked desk.old) (D.desked desk.new) (sides (L.reading link.old) (L.writing link.old)) (sides (L.reading link.new) (L.writing link.new)) }
+    ensures stays { Stays D.is_at desk.old desk.new }
 {
     match link.read(buffer) {
         Got::Failed => return Err(Ended::ReadFault),
@@ -109,6 +114,7 @@ pub(crate) fn turn<L: Wire, D: Desk>(
     buffer: &mut [u8],
 ) -> Result<(), Ended>
     requires room { length buffer.old ≡ 65536 }
+    ensures stays { Stays D.is_at desk.old desk.new }
     ensures turned { IsTurned peer holder result (D.desked desk.old) (D.desked desk.new) (sides (L.reading link.old) (L.writing link.old)) (sides (L.reading link.new) (L.writing link.new)) }
     ensures buffer { length buffer.new ≡ length buffer.old }
 {

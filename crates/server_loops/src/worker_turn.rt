@@ -2,6 +2,7 @@
 ghost use Rattle.std.specs.Prelude.{◌≡◌, ℕ, Contains, Some, Ok};
 ghost use Rattle.dom_base.specs.declared.names.As.{As};
 ghost use Rattle.server_loops.specs.Benches.{Look, IsGiven};
+ghost use Rattle.server_loops.specs.Sites.{Stays};
 ghost use Rattle.server_loops.specs.WorkerSteps.{AreRight, IsLive, IsFound, IsFinished, IsTurned};
 
 use crate::benches::{Bench, Finished};
@@ -14,7 +15,8 @@ use std::alloc::Global;
 
 // The ready job at the worker's place, and the first where there is none.
 fn find<B: Bench>(bench: &mut B, index: u32) -> Option<(As, u64)>
-    ensures { IsFound index (B.benched bench.old) (B.benched bench.new) result }
+    ensures found { IsFound index (B.benched bench.old) (B.benched bench.new) result }
+    ensures stays { Stays B.is_at bench.old bench.new }
 {
     match bench.ready(index as usize) {
         Some(job) => Some(job),
@@ -35,7 +37,8 @@ fn finish<B: Bench>(
     requires given { IsGiven (B.benched bench.old) work.now }
     requires live { IsLive (B.benched bench.old) }
     requires right { AreRight (B.benched bench.old).topologies cache.old }
-    ensures { IsFinished work.now result (B.benched bench.old) (B.benched bench.new) cache.old cache.new }
+    ensures finished { IsFinished work.now result (B.benched bench.old) (B.benched bench.new) cache.old cache.new }
+    ensures stays { Stays B.is_at bench.old bench.new }
 {
     let done = solve(alloc, cache, work)?;
     match bench.finish(done) {
@@ -54,7 +57,8 @@ pub(crate) fn turn<B: Bench, G: Gate>(
     index: u32,
 ) -> Result<(), NoMemory>
     requires { AreRight (B.benched bench.old).topologies cache.old }
-    ensures { IsTurned index result (B.benched bench.old) (B.benched bench.new) (G.passed gate.old) (G.passed gate.new) cache.old cache.new }
+    ensures turned { IsTurned index result (B.benched bench.old) (B.benched bench.new) (G.passed gate.old) (G.passed gate.new) cache.old cache.new }
+    ensures stays { Stays B.is_at bench.old bench.new }
 {
     let Some((at, number)) = find(bench, index) else {
         return Ok(());

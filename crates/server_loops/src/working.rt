@@ -1,5 +1,6 @@
 //! The turns of a worker.
 ghost use Rattle.std.specs.Prelude.{◌≡◌, ◌↔◌, [], ℕ};
+ghost use Rattle.server_loops.specs.Sites.{Stays};
 ghost use Rattle.server_loops.specs.WorkerTurns.{Runs};
 ghost use Rattle.server_loops.specs.declared.working.Worked.TheVariants.{Spent as SpentAt};
 
@@ -31,6 +32,7 @@ pub fn work<B: Bench, G: Gate>(
 ) -> Worked
     requires { cache.old.entries ≡ [] }
     ensures runs { Runs index turns result (B.benched bench.old) (B.benched bench.new) (G.passed gate.old) (G.passed gate.new) cache.new }
+    ensures stays { Stays B.is_at bench.old bench.new }
     ensures spent { (t : ℕ) → (result ≡ SpentAt t) ↔ ((B.benched bench.new).spent ≡ Some t) }
 {
     for _turn in 0..turns {

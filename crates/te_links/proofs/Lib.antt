@@ -1,6 +1,8 @@
 pub mod Rising
 pub mod Ends
 pub mod Grouping
+pub mod Joining
+pub mod Arriving
 pub mod Nothing
 pub mod Rules
 pub mod Different

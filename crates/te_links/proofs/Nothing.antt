@@ -1,11 +1,14 @@
 -- A topology without rows.
-use Rattle.std.proofs.Common.{inl, inr, ℕ, [], length, refl, arith}
+use Rattle.std.proofs.Common.{◌≡◌, inl, inr, ℕ, [], length, refl, arith}
 use Rattle.std.proofs.lemmas.Bool.{cases_lt}
 use Rattle.dom_base.specs.declared.addr.Addr.TheVariants.{V4}
 use Rattle.dom_base.specs.declared.addr.Addr.{Addr}
 use Rattle.dom_base.specs.declared.names.As.{As}
 use Rattle.te_links.specs.Rows.{Rows, IsTopology, IsInOrder, FewDifferent}
-use Rattle.te_links.specs.Index.{IsIndex, IsIndexFrom, AreTails, AreHeads}
+use Rattle.te_links.specs.declared.groups.Groups.{Groups}
+use Rattle.te_links.specs.declared.index.Index.{Index}
+use Rattle.te_links.specs.Grouped.{AreBounds}
+use Rattle.te_links.specs.Indexed.{IsIndex}
 
 pub few_of_none : (most : ℕ) → FewDifferent most []
 few_of_none most list differ within =
@@ -42,14 +45,13 @@ nothing_in_order own = record {
   entries = λ i j d before below. absurd (omega arith);
 }
 
-pub nothing_indexed : IsIndex [] [] []
-nothing_indexed = record { each = refl; at_node = λ i d below. absurd (omega arith) }
+no_groups : (g : Groups) → g.first.items ≡ [] → g.places.items ≡ [] → AreBounds 0 (length g.places.items) g.first.items
+no_groups g first places = record { each = λ i below. absurd (omega arith); up = λ i below. absurd (omega arith); within = λ i below. absurd (omega arith) }
 
-pub nothing_begins : AreTails [] [] []
-nothing_begins = record { each = refl; at_link = λ p d below. absurd (omega arith) }
-
-pub nothing_leaving : IsIndexFrom [] [] []
-nothing_leaving = record { each = refl; at_node = λ i d below. absurd (omega arith) }
-
-pub nothing_ends : AreHeads [] [] []
-nothing_ends = record { each = refl; at_link = λ p d below. absurd (omega arith) }
+pub nothing_indexed : (x : Index) → x.heads.items ≡ [] → x.into.first.items ≡ [] → x.into.places.items ≡ [] → x.arcs.items ≡ [] → x.from.first.items ≡ [] → x.from.places.items ≡ [] → IsIndex [] [] x
+nothing_indexed x heads into_first into_places arcs from_first from_places = record {
+  heads = rw heads (record { each = refl; at_link = λ p d below. absurd (omega arith) });
+  into = record { bounds = no_groups x.into into_first into_places; at_node = λ i below. absurd (omega arith) };
+  arcs = rw (into_places, arcs) (record { each = refl; at_place = λ k p a below. absurd (omega arith) });
+  from = record { bounds = no_groups x.from from_first from_places; at_node = λ i below. absurd (omega arith) };
+}

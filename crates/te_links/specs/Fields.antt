@@ -2,7 +2,7 @@
 use Rattle.std.specs.Prelude.{◌<◌, ◌^◌, length}
 use Rattle.te_links.specs.declared.topology.Topology.TheInside.{Inside}
 use Rattle.te_links.specs.Rows.{Rows, IsTopology, IsInOrder}
-use Rattle.te_links.specs.Index.{IsIndex, IsIndexFrom, AreTails, AreHeads}
+use Rattle.te_links.specs.Indexed.{IsIndex}
 
 abbrev pub rows_of : Inside → Rows
 rows_of t = record { own = t.own; nodes = t.nodes.items; links = t.links.items; outs = t.outs.items; entries = t.entries.items }
@@ -11,7 +11,4 @@ pub record HoldsRules (t : Inside) : Type 0 where
   pub rules : IsTopology (rows_of t)
   pub order : IsInOrder (rows_of t)
   pub short : length t.entries.items < 2 ^ 32
-  pub index : IsIndex t.nodes.items t.links.items t.into.items
-  pub leaving : IsIndexFrom t.nodes.items t.links.items t.leaving.items
-  pub tails : AreTails t.nodes.items t.links.items t.ends.tails.items
-  pub heads : AreHeads t.nodes.items t.links.items t.ends.heads.items
+  pub index : IsIndex t.nodes.items t.links.items t.index

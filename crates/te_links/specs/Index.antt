@@ -1,6 +1,5 @@
 -- Which links end at which node, where each begins and ends, and which has a far address.
 use Rattle.std.specs.Prelude.{◌≡◌, ◌<◌, ℕ, List, length, All, AllPairs, Contains, Some, slice_get, slice_index_or}
-use Rattle.std.specs.Global.{Vec}
 use Rattle.dom_base.specs.declared.addr.Addr.{Addr}
 use Rattle.dom_base.specs.declared.link.Link.{Link}
 
@@ -17,11 +16,6 @@ pub record IsLinksInto (nodes : List Addr) (links : List Link) (i : ℕ) (places
   pub whole : (p : ℕ) → LinkEndsAt nodes links i p → Contains places p
   pub order : AllPairs (λ p q. p < q) places
 
--- for each node the links that end there
-pub record IsIndex (nodes : List Addr) (links : List Link) (into : List (Vec ℕ)) : Type 0 where
-  pub each : length into ≡ length nodes
-  pub at_node : (i : ℕ) (d : Vec ℕ) → i < length into → IsLinksInto nodes links i (slice_index_or into i d).items
-
 -- the link at place p begins at the node at place i
 pub record LinkBeginsAt (nodes : List Addr) (links : List Link) (i p : ℕ) : Type 0 where
   pub link : Link
@@ -33,11 +27,6 @@ pub record IsLinksFrom (nodes : List Addr) (links : List Link) (i : ℕ) (places
   pub begins : All (LinkBeginsAt nodes links i) places
   pub whole : (p : ℕ) → LinkBeginsAt nodes links i p → Contains places p
   pub order : AllPairs (λ p q. p < q) places
-
--- for each node the links that begin there
-pub record IsIndexFrom (nodes : List Addr) (links : List Link) (leaving : List (Vec ℕ)) : Type 0 where
-  pub each : length leaving ≡ length nodes
-  pub at_node : (i : ℕ) (d : Vec ℕ) → i < length leaving → IsLinksFrom nodes links i (slice_index_or leaving i d).items
 
 -- for each link the place of the node that it begins at
 pub record AreTails (nodes : List Addr) (links : List Link) (tails : List ℕ) : Type 0 where

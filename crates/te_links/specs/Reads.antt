@@ -10,3 +10,7 @@ pub record Reading : Type 0 where
 -- one more, unless it stands at its type's last value
 abbrev pub RoseByOne : ℕ → ℕ → Type 0
 RoseByOne old new = new ≡ min (old + 1) (2 ^ 64 - 1)
+
+-- so many more, unless it stands there
+abbrev pub RoseBy : ℕ → ℕ → ℕ → Type 0
+RoseBy more old new = new ≡ min (old + more) (2 ^ 64 - 1)

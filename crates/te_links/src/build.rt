@@ -6,7 +6,7 @@ ghost use Rattle.te_links.specs.Faults.{IsReason, rows_of_parts};
 
 use crate::checks::check;
 use crate::fault::BuildError;
-use crate::index::{ends_of, links_by};
+use crate::index::Index;
 use crate::places::Hints;
 use crate::rows::Parts;
 use crate::survey::Survey;
@@ -34,10 +34,8 @@ fn assemble(alloc: Global, parts: Parts, hints: Hints) -> Result<Topology, Alloc
     links.sort_by_key(|l| l.far)?;
     outs.sort_by_key(|o| o.link.far)?;
     entries.sort()?;
-    let ends = ends_of(alloc, &nodes, &hints, &links)?;
-    let into = links_by(alloc, nodes.len(), &ends.heads)?;
-    let leaving = links_by(alloc, nodes.len(), &ends.tails)?;
-    Ok(Topology::of(own, nodes, links, outs, entries, hints, into, leaving, ends))
+    let index = Index::of_links(alloc, &nodes, &hints, &links)?;
+    Ok(Topology::of(own, nodes, links, outs, entries, hints, index))
 }
 
 impl Topology {

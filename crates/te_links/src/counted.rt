@@ -1,7 +1,8 @@
 //! A topology that counts how often its links are read.
 ghost use Rattle.std.specs.Prelude.{◌≡◌, ◌<◌, length};
-ghost use Rattle.te_links.specs.Reads.{RoseByOne};
+ghost use Rattle.te_links.specs.Reads.{RoseBy};
 
+use crate::arrivals::Arrivals;
 use crate::links::Links;
 use crate::rows::OutLink;
 use crate::topology::Topology;
@@ -40,12 +41,12 @@ impl<'a> Counted<'a> {
         self.reads
     }
 
-    // One more link was read.
-    fn count(&mut self)
+    // So many more links were read.
+    fn count(&mut self, links: usize)
         ensures topology { self.new.topology ≡ self.old.topology }
-        ensures counted { RoseByOne self.old.reads self.new.reads }
+        ensures counted { RoseBy links self.old.reads self.new.reads }
     {
-        self.reads = self.reads.saturating_add(1);
+        self.reads = self.reads.saturating_add(links as u64);
     }
 }
 
@@ -86,18 +87,19 @@ impl<'a> Links<'a> for Counted<'a> {
         self.topology.out_at(i)
     }
 
+    fn read_into(&mut self, node: u32) -> Arrivals<'a> {
+        let arrivals = self.topology.arrivals(node);
+        self.count(arrivals.len());
+        arrivals
+    }
+
     fn link_at(&mut self, i: u32) -> &'a Link {
-        self.count();
+        self.count(1);
         self.topology.link_at(i)
     }
 
-    fn link_with_tail(&mut self, i: u32) -> (&'a Link, u32) {
-        self.count();
-        (self.topology.link_at(i), self.topology.tail_of(i))
-    }
-
     fn link_with_head(&mut self, i: u32) -> (&'a Link, u32) {
-        self.count();
+        self.count(1);
         (self.topology.link_at(i), self.topology.head_of(i))
     }
 }

@@ -2,10 +2,12 @@
 //! domains, and the nodes at which paths from other domains may enter.
 #![tactic(auto)]
 
+mod arrivals;
 mod build;
 mod checks;
 mod counted;
 mod fault;
+mod groups;
 mod index;
 mod limits;
 mod links;
@@ -14,6 +16,7 @@ mod rows;
 mod survey;
 mod topology;
 
+pub use arrivals::{Arc, Arrivals};
 pub use counted::Counted;
 pub use fault::{BuildError, Row, RowKind, TopoFault};
 pub use limits::{

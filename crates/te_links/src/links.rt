@@ -2,13 +2,16 @@
 ghost use Rattle.std.specs.Prelude.{◌≡◌, ◌<◌, ℕ, length, slice_get, Contains, Some, MatchOption};
 ghost use Rattle.te_links.specs.Rows.{Rows, IsTopology, IsInOrder};
 ghost use Rattle.te_links.specs.Index.{IsLinksInto, IsLinksFrom};
-ghost use Rattle.te_links.specs.Reads.{RoseByOne};
+ghost use Rattle.te_links.specs.Arrivals.{AreArrivals};
+ghost use Rattle.te_links.specs.Reads.{RoseBy, RoseByOne};
 
+use crate::arrivals::Arrivals;
 use crate::rows::OutLink;
 use dom_base::{Addr, Link};
 
-/// The rows of a topology, as a search sees them. An inner link is read by `link_at`,
-/// `link_with_tail` and `link_with_head` alone, which count. Results live as long as the topology, and do not borrow the value.
+/// The rows of a topology, as a search sees them. An inner link is seen through `read_into`,
+/// `link_at` and `link_with_head` alone, which count. Results live as long as the topology, and do
+/// not borrow the value.
 pub trait Links<'a> {
     /// The topology, which no call changes.
     ghost rows: { Self → Rows };
@@ -55,19 +58,17 @@ pub trait Links<'a> {
         requires { i < length (rows self.now).outs }
         ensures { slice_get (rows self.now).outs i ≡ Some result.now };
 
+    /// Reads the links into a node, all at once: the count of reads rises by their number.
+    fn read_into(&mut self, node: u32) -> Arrivals<'a>
+        requires { node < length (rows self.old).nodes }
+        ensures arrivals { AreArrivals (rows self.old) node result }
+        ensures same { rows self.new ≡ rows self.old }
+        ensures counted { RoseBy (length result.places) (reads self.old) (reads self.new) };
+
     /// Reads an inner link, which raises the count of reads by one.
     fn link_at(&mut self, i: u32) -> &'a Link
         requires { i < length (rows self.old).links }
         ensures link { slice_get (rows self.old).links i ≡ Some result.now }
-        ensures same { rows self.new ≡ rows self.old }
-        ensures counted { RoseByOne (reads self.old) (reads self.new) };
-
-    /// Reads an inner link as `link_at` does, with the place of the node that it
-    /// begins at.
-    fn link_with_tail(&mut self, i: u32) -> (&'a Link, u32)
-        requires { i < length (rows self.old).links }
-        ensures link { slice_get (rows self.old).links i ≡ Some result.0.now }
-        ensures tail { slice_get (rows self.old).nodes result.1 ≡ Some result.0.now.from }
         ensures same { rows self.new ≡ rows self.old }
         ensures counted { RoseByOne (reads self.old) (reads self.new) };
 

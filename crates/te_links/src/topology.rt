@@ -1,9 +1,13 @@
 //! The topology of one domain, by its rows in order.
 ghost use Rattle.std.specs.Prelude.{◌≡◌, ◌↔◌, ◌<◌, ◌^◌, ℕ, [], vec_len, length, slice_get, Contains, Some, MatchOption};
 ghost use Rattle.te_links.specs.Rows.{IsTopology, IsInOrder};
-ghost use Rattle.te_links.specs.Index.{IsIndex, IsLinksInto, IsIndexFrom, IsLinksFrom, IsLinkAt, AreTails, AreHeads, LinkBeginsAt, LinkEndsAt};
+ghost use Rattle.te_links.specs.Index.{IsLinksInto, IsLinksFrom, IsLinkAt, LinkBeginsAt, LinkEndsAt};
+ghost use Rattle.te_links.specs.Arrivals.{AreArrivals};
+ghost use Rattle.te_links.specs.Indexed.{IsIndex};
 
-use crate::index::Ends;
+use crate::arrivals::Arrivals;
+use crate::groups::part;
+use crate::index::{Index, place_of_node};
 use crate::places::{Hints, place_near, place_of_far};
 use crate::rows::{Entry, OutLink};
 use dom_base::{Addr, As, Link};
@@ -20,9 +24,7 @@ pub struct Topology {
     outs: Vec<OutLink>,
     entries: Vec<Entry>,
     hints: Hints,
-    into: Vec<Vec<u32>>,
-    leaving: Vec<Vec<u32>>,
-    ends: Ends,
+    index: Index,
 }
 
 // Written by hand, so that it is proved once: a derived one would be proved again in each crate that drops a value.
@@ -35,9 +37,7 @@ impl Drop for Topology {
             outs: _,
             entries: _,
             hints: _,
-            into: _,
-            leaving: _,
-            ends: _,
+            index: _,
         } = self;
     }
 }
@@ -62,17 +62,12 @@ impl Topology {
         outs: Vec<OutLink>,
         entries: Vec<Entry>,
         hints: Hints,
-        into: Vec<Vec<u32>>,
-        leaving: Vec<Vec<u32>>,
-        ends: Ends,
+        index: Index,
     ) -> Topology
         requires rules { IsTopology (record { own = own; nodes = nodes.items; links = links.items; outs = outs.items; entries = entries.items }) }
         requires order { IsInOrder (record { own = own; nodes = nodes.items; links = links.items; outs = outs.items; entries = entries.items }) }
         requires short { vec_len entries < 2 ^ 32 }
-        requires index { IsIndex nodes.items links.items into.items }
-        requires leaving { IsIndexFrom nodes.items links.items leaving.items }
-        requires tails { AreTails nodes.items links.items ends.tails.items }
-        requires heads { AreHeads nodes.items links.items ends.heads.items }
+        requires index { IsIndex nodes.items links.items index }
         ensures { result ≡ record { own = own; nodes = nodes.items; links = links.items; outs = outs.items; entries = entries.items } }
     {
         Topology {
@@ -82,9 +77,7 @@ impl Topology {
             outs,
             entries,
             hints,
-            into,
-            leaving,
-            ends,
+            index,
         }
     }
 
@@ -103,9 +96,7 @@ impl Topology {
             outs: Vec::new(alloc),
             entries: Vec::new(alloc),
             hints: Hints::none(alloc),
-            into: Vec::new(alloc),
-            leaving: Vec::new(alloc),
-            ends: Ends::none(alloc),
+            index: Index::none(alloc),
         }
     }
 
@@ -175,7 +166,7 @@ impl Topology {
         requires { i < length self.now.links }
         ensures { LinkBeginsAt self.now.nodes self.now.links result i }
     {
-        self.ends.tails[i as usize]
+        place_of_node(&self.nodes, &self.hints, self.links[i as usize].from)
     }
 
     /// The place of the node that a link ends at.
@@ -183,7 +174,7 @@ impl Topology {
         requires { i < length self.now.links }
         ensures { LinkEndsAt self.now.nodes self.now.links result i }
     {
-        self.ends.heads[i as usize]
+        self.index.heads[i as usize]
     }
 
     /// The link of that place that leaves the domain.
@@ -226,8 +217,7 @@ impl Topology {
         requires { node < length self.now.nodes }
         ensures { IsLinksInto self.now.nodes self.now.links node result.now }
     {
-        let places = &self.into[node as usize];
-        places.as_slice()
+        self.index.into.at(&self.nodes, node)
     }
 
     /// The places of the links that begin at a node, in the order of their far addresses.
@@ -237,7 +227,17 @@ impl Topology {
         ensures rules { IsTopology self.now }
         ensures order { IsInOrder self.now }
     {
-        let places = &self.leaving[node as usize];
-        places.as_slice()
+        self.index.from.at(&self.nodes, node)
+    }
+
+    /// The links that end at a node, with their arcs.
+    pub(crate) fn arrivals(&self, node: u32) -> Arrivals<'_>
+        requires { node < length self.now.nodes }
+        ensures { AreArrivals self.now node result }
+    {
+        let (start, end) = self.index.into.bounds(node);
+        let arcs = part(&self.index.arcs, start, end);
+        let places = self.index.into.at(&self.nodes, node);
+        Arrivals::of(&self.links, places, arcs)
     }
 }

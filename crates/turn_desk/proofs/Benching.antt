@@ -21,7 +21,7 @@ use Rattle.turn_desk.specs.Desks.{IsTurn, Rests, Stand, benched_of}
 use Rattle.turn_desk.specs.Works.{AreAsked, AreDone, Finds, IsAnswer, IsQuestion, job_at, noted_calls, work_call, worked_of, works}
 use Rattle.turn_desk.specs.declared.notes.Note.{Note}
 use Rattle.turn_desk.proofs.Found.{picked_from, picked_in}
-use Rattle.turn_desk.proofs.Turning.{no_call_of, none_spent, rests_calls, rests_known, still_known}
+use Rattle.turn_desk.proofs.Turning.{no_call_of, none_spent, rests_calls, rests_known, rests_still, still_known, turn_still}
 
 pub works_more : (calls made : List Call) → works (calls ++ made) ≡ works calls ++ works made
 works_more calls made = filter_map-append work_call calls made
@@ -41,6 +41,7 @@ none_asked s = record {
   no_work = refl;
   topologies = λ at generation g known. known;
   stays = λ n is. is;
+  still = λ first at. at;
 }
 
 -- questions behind others
@@ -52,6 +53,7 @@ asked_on old mid new a b = record {
   no_work = b.no_work ∙ a.no_work;
   topologies = λ at generation g known. b.topologies at generation g (a.topologies at generation g known);
   stays = λ n was. b.stays n (a.stays n was);
+  still = λ first at. b.still first (a.still first at);
 }
 
 answer_on : (answer : Option (As × ℕ)) (before made : List (Act × ActAnswer)) → IsAnswer answer made → IsAnswer answer (before ++ made)
@@ -87,6 +89,7 @@ one_told d behind answer old new t = record {
     no_work = ap works (no_call_of (Next d behind) (acted.Next answer) old new t refl);
     topologies = λ at generation g known. still_known old new (Next d behind) t.0 t.2 at generation g known;
     stays = λ n was. absurd (none_spent n old.spent t.2.spent.0 was);
+    still = turn_still old new (Next d behind) (Ok (acted.Next answer)) t;
   };
   answered = job_found d behind t.0 answer t.1;
   idle = λ n now. absurd (none_spent n new.spent t.2.spent.1 now);
@@ -101,6 +104,7 @@ none_told d number old new r = record {
     no_work = ap works (rests_calls old new number r);
     topologies = λ at generation g known. rests_known old new number r at generation g known;
     stays = λ n was. r.spent ∙ ap (λ (m : ℕ). Some m) (sym (r.stays n was));
+    still = rests_still old new number r;
   };
   answered = tt;
   idle = λ n now. refl;

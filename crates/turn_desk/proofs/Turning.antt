@@ -45,7 +45,7 @@ use Rattle.server_loops.specs.Desks.{Answer, Goes, GoesTelling, call_telling}
 use Rattle.server_loops.specs.declared.desks.DeskRefused.{DeskRefused}
 use Rattle.server_loops.specs.declared.desks.DeskRefused.TheVariants.{Plant, Spent}
 use Rattle.server_loops.specs.Benches as bench
-use Rattle.turn_desk.specs.Desks.{IsDone, IsOneTurn, IsTaken, IsTurn, IsTurnBy, IsTurnTelling, Makes, Rests, Stand, bench_call, benched_of, desk_call, desked_of, did_as, did_by, taken_as, told_of}
+use Rattle.turn_desk.specs.Desks.{IsAtLock, IsDone, IsOneTurn, IsOpened, IsStill, IsTaken, IsTurn, IsTurnBy, IsTurnTelling, Makes, Rests, Stand, bench_call, benched_of, desk_call, desked_of, did_as, did_by, taken_as, told_of}
 use Rattle.turn_desk.specs.Histories.{Begins, known_by}
 use Rattle.turn_desk.proofs.Beginning.{none_is_now}
 use Rattle.turn_desk.proofs.Found.{own_is_seen, picked_from, split_at}
@@ -239,6 +239,31 @@ pub desk_turns : (old new : Stand) (e : Event) (answer : Answer) → IsTurn (Do 
 desk_turns old new e (Ok o) t = one_turn old new (Do e) (IsDone (Ok o)) (Did (Ok o)) (Ok o, refl, refl) t
 desk_turns old new e (Err (Plant why)) t = one_turn old new (Do e) (IsDone (Err (Plant why))) (Did (Err why)) (Err why, refl, refl) t
 desk_turns old new e (Err (Spent number)) r = no_turn old new (Do e) (IsDone (Err (Spent number))) number r
+
+-- ---- where a desk stands
+
+makes_still : (old new : Stand) (act : Act) (turn : ActAnswer) → Makes old new act turn → IsStill old new
+makes_still old new act turn m first at = record { lock = m.lock ∙ at.lock; start = m.start ∙ at.start; legal = m.legal }
+
+pub rests_still : (old new : Stand) (number : ℕ) → Rests old new number → IsStill old new
+rests_still old new number r first at = record {
+  lock = r.lock ∙ at.lock;
+  start = r.start ∙ at.start;
+  legal = subst (λ (h : Option Held). LegalFrom whole Admits Allowed left_by h new.seen) (sym r.start) (subst (λ (es : List (Act × ActAnswer)). LegalFrom whole Admits Allowed left_by old.start es) (sym r.seen) at.legal);
+}
+
+-- no turn moves a desk
+pub turn_still : (old new : Stand) (act : Act) (r : Result Acted ℕ) → IsTurn act r old new → IsStill old new
+turn_still old new act (Ok acted) t = makes_still old new act t.0 t.2
+turn_still old new act (Err number) r = rests_still old new number r
+
+pub telling_still : (old new : Stand) (act : Act) (r : Result (Acted × Rest) ℕ) → IsTurnTelling act r old new → IsStill old new
+telling_still old new act (Ok told) t = makes_still old new act t.0 t.3
+telling_still old new act (Err number) r = rests_still old new number r
+
+-- the first desk at a lock is at it
+pub opened_at_lock : (h : Held) (s : Stand) → IsOpened h s → IsAtLock s s
+opened_at_lock h s opened = record { lock = refl; start = refl; legal = subst (λ (z : Stand). LegalFrom whole Admits Allowed left_by z.start z.seen) (sym opened) tt }
 
 -- ---- as a bench
 

@@ -66,6 +66,18 @@ IsOpened h s = s ≡ opened_by s.lock h
 abbrev pub split_from : Stand → Stand
 split_from s = record s { own = []; spent = None }
 
+-- ---- where it stands
+
+-- A desk at the same lock as another. What it has seen is a legal history of that lock.
+pub record IsAtLock (first s : Stand) : Type 0 where
+  pub lock : s.lock ≡ first.lock
+  pub start : s.start ≡ first.start
+  pub legal : LegalFrom whole Admits Allowed left_by s.start s.seen
+
+-- at whichever lock it was, it still is
+abbrev pub IsStill : Stand → Stand → Type 0
+IsStill old new = (first : Stand) → IsAtLock first old → IsAtLock first new
+
 -- ---- what its entries are as calls
 
 -- what a desk answers where the network answered so

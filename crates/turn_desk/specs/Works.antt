@@ -11,7 +11,7 @@ use Rattle.plant_network.specs.pce_element.pce_common.declared.rounds.Behind.{Be
 use Rattle.plant_network.specs.declared.acts.ActAnswer.{ActAnswer}
 use Rattle.server_loops.specs.Benches as bench
 use Rattle.server_loops.specs.Benches.{Benched, Call}
-use Rattle.turn_desk.specs.Desks.{Stand, benched_of}
+use Rattle.turn_desk.specs.Desks.{IsStill, Stand, benched_of}
 use Rattle.turn_desk.specs.declared.notes.Note.{Note}
 use Rattle.turn_desk.specs.declared.notes.Note.TheVariants.{Asked, Looked, Finished}
 
@@ -84,6 +84,7 @@ pub record AreAsked (old new : Stand) : Type 0 where
   pub no_work : works (benched_of new).calls ≡ works (benched_of old).calls
   pub topologies : (at : As) (generation : ℕ) (g : Rows) → (benched_of old).topologies at generation ≡ Some g → (benched_of new).topologies at generation ≡ Some g
   pub stays : (t : ℕ) → old.spent ≡ Some t → new.spent ≡ Some t
+  pub still : IsStill old new
 
 -- and the answer is that of the last
 pub record Finds (answer : Option (As × ℕ)) (old new : Stand) : Type 0 where

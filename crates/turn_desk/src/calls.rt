@@ -5,7 +5,7 @@ ghost use Rattle.plant_network.specs.declared.acts.Acted.TheVariants.{Looked, Fo
 ghost use Rattle.plant_network.specs.plant_model.declared.event.Event.TheVariants.{Take};
 ghost use Rattle.server_loops.specs.Desks as desk;
 ghost use Rattle.server_loops.specs.Benches as bench;
-ghost use Rattle.turn_desk.specs.Desks.{IsDone, IsFinish, IsOneTurn, IsTaken, IsTurn, benched_of, desked_of, did_by, finished_as, stand_of, taken_as};
+ghost use Rattle.turn_desk.specs.Desks.{IsDone, IsFinish, IsOneTurn, IsStill, IsTaken, IsTurn, benched_of, desked_of, did_by, finished_as, stand_of, taken_as};
 
 use crate::answers::{committed_in, did_in, found_in, looked_in};
 use crate::desk::TurnDesk;
@@ -75,6 +75,7 @@ impl<R: Wait + Clock> Desk for TurnDesk<R> {
     fn act(&mut self, event: Event) -> Result<Outcome, DeskRefused>
         requires { desk.IsOwnLoad event }
         ensures goes { desk.Goes (desked_of (stand_of self.old)) (desked_of (stand_of self.new)) event result }
+        ensures stays { IsStill (stand_of self.old) (stand_of self.new) }
         ensures turn { IsOneTurn (Do event) (IsDone result) (stand_of self.old) (stand_of self.new) }
     {
         self.make(event)
@@ -82,6 +83,7 @@ impl<R: Wait + Clock> Desk for TurnDesk<R> {
 
     fn take(&mut self, peer: u32) -> Result<Rest, DeskRefused>
         ensures takes { desk.Takes (desked_of (stand_of self.old)) (desked_of (stand_of self.new)) peer result }
+        ensures stays { IsStill (stand_of self.old) (stand_of self.new) }
         ensures turn { IsOneTurn (Do (Take peer)) (IsTaken result) (stand_of self.old) (stand_of self.new) }
     {
         match self.turn_telling(Act::Do(Event::Take(peer))) {
@@ -102,6 +104,7 @@ impl<R: Wait + Clock> Bench for TurnDesk<R> {
 
     fn ready(&mut self, k: usize) -> Option<(As, u64)>
         ensures goes { bench.Goes (benched_of (stand_of self.old)) (benched_of (stand_of self.new)) (bench.Ready k result) }
+        ensures stays { IsStill (stand_of self.old) (stand_of self.new) }
         ensures turn { IsOneTurn (AskReady k) (λ acted. acted ≡ Found result) (stand_of self.old) (stand_of self.new) }
     {
         match self.turn(Act::Ready(k)) {
@@ -113,6 +116,7 @@ impl<R: Wait + Clock> Bench for TurnDesk<R> {
     fn look(&mut self, at: As, number: u64) -> Result<Option<Work>, NoMemory>
         ensures goes { bench.Goes (benched_of (stand_of self.old)) (benched_of (stand_of self.new)) (bench.Look at number result) }
         ensures given { IfOk result (λ work. IfSome work (bench.IsGiven (benched_of (stand_of self.new)))) }
+        ensures stays { IsStill (stand_of self.old) (stand_of self.new) }
         ensures turn { IsOneTurn (LookAt at number) (λ acted. acted ≡ Looked result) (stand_of self.old) (stand_of self.new) }
     {
         match self.turn(Act::Look(at, number)) {
@@ -124,6 +128,7 @@ impl<R: Wait + Clock> Bench for TurnDesk<R> {
     fn finish(&mut self, done: Done) -> Finished
         requires { bench.WasGiven (benched_of (stand_of self.old)) done }
         ensures goes { bench.Goes (benched_of (stand_of self.old)) (benched_of (stand_of self.new)) (bench.Finish done result) }
+        ensures stays { IsStill (stand_of self.old) (stand_of self.new) }
         ensures turn { IsOneTurn (FinishOf done) (IsFinish result) (stand_of self.old) (stand_of self.new) }
     {
         match self.turn(Act::Finish(done)) {

@@ -6,7 +6,7 @@ ghost use Rattle.plant_network.specs.declared.acts.Act.TheVariants.{Do, Map as M
 ghost use Rattle.plant_network.specs.declared.acts.Acted.TheVariants.{Mapped as MappedTo};
 ghost use Rattle.server_loops.specs.Desks as desk;
 ghost use Rattle.turn_desk.specs.Charts.{IsMapped, charted_of};
-ghost use Rattle.turn_desk.specs.Desks.{IsDone, IsOneTurn, stand_of};
+ghost use Rattle.turn_desk.specs.Desks.{IsDone, IsOneTurn, IsStill, stand_of};
 
 use crate::desk::TurnDesk;
 use dom_base::{As, NoMemory};
@@ -43,6 +43,7 @@ impl<R: Wait + Clock> Chart for TurnDesk<R> {
     fn act(&mut self, event: Event) -> Result<Outcome, DeskRefused>
         requires { desk.IsOwnLoad event }
         ensures goes { chart.Goes (charted_of (stand_of self.old)) (charted_of (stand_of self.new)) event result }
+        ensures stays { IsStill (stand_of self.old) (stand_of self.new) }
         ensures turn { IsOneTurn (Do event) (IsDone result) (stand_of self.old) (stand_of self.new) }
     {
         self.make(event)
@@ -50,6 +51,7 @@ impl<R: Wait + Clock> Chart for TurnDesk<R> {
 
     fn map(&mut self, at: As) -> Found
         ensures asks { chart.Asks (charted_of (stand_of self.old)) (charted_of (stand_of self.new)) at (chart.current_of arc_value result) }
+        ensures stays { IsStill (stand_of self.old) (stand_of self.new) }
         ensures turn { IsOneTurn (MapOf at) (λ acted. acted ≡ MappedTo result) (stand_of self.old) (stand_of self.new) }
     {
         match self.turn(Act::Map(at)) {

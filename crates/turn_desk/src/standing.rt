@@ -8,6 +8,7 @@ use crate::desk::TurnDesk;
 use crate::workbench::WorkBench;
 use plant_lock::TurnSeat;
 use plant_network::Plant;
+use server_loops::Sited;
 use std::snapshot::Snapshot;
 use std::sync::Wait;
 use std::time::Clock;
@@ -17,6 +18,23 @@ use std::time::Clock;
 pub struct Standing {
     seat: Snapshot<TurnSeat<Plant>>,
     spent_at: Option<u64>,
+}
+
+impl<R: Wait + Clock> Sited for TurnDesk<R> {
+    ghost use Rattle.turn_desk.specs.Desks.{IsAtLock, Stand, stand_of};
+
+    ghost Site = { Stand };
+
+    ghost is_at = { λ d first. IsAtLock first (stand_of d) };
+}
+
+impl<R: Wait + Clock> Sited for WorkBench<R> {
+    ghost use Rattle.turn_desk.specs.Desks.{IsAtLock, Stand};
+    ghost use Rattle.turn_desk.specs.WorkBenches.{desk_of};
+
+    ghost Site = { Stand };
+
+    ghost is_at = { λ b first. IsAtLock first (desk_of b) };
 }
 
 impl<R: Wait + Clock> TurnDesk<R> {

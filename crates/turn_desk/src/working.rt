@@ -3,7 +3,7 @@ ghost use Rattle.std.specs.Prelude.{◌≡◌, ◌++◌, [], IfOk, IfSome};
 ghost use Rattle.plant_network.specs.declared.acts.Act.TheVariants.{Look as LookAt, Finish as FinishOf};
 ghost use Rattle.plant_network.specs.declared.acts.Acted.TheVariants.{Looked as LookedAt};
 ghost use Rattle.server_loops.specs.Benches as bench;
-ghost use Rattle.turn_desk.specs.Desks.{IsFinish, IsOneTurn, stand_of};
+ghost use Rattle.turn_desk.specs.Desks.{IsFinish, IsOneTurn, IsStill, stand_of};
 ghost use Rattle.turn_desk.specs.Works.{Asks, noted_call, noted_calls};
 ghost use Rattle.turn_desk.specs.WorkBenches.{bench_of, desk_of};
 
@@ -65,6 +65,7 @@ impl<R: Wait + Clock> Bench for WorkBench<R> {
 
     fn ready(&mut self, k: usize) -> Option<(As, u64)>
         ensures goes { bench.Goes (bench_of self.old) (bench_of self.new) (bench.Ready k result) }
+        ensures stays { IsStill (desk_of self.old) (desk_of self.new) }
         ensures asks { Asks result (desk_of self.old) (desk_of self.new) }
     {
         let found = self.desk.find(self.worker, &mut self.circle);
@@ -78,6 +79,7 @@ impl<R: Wait + Clock> Bench for WorkBench<R> {
     fn look(&mut self, at: As, number: u64) -> Result<Option<Work>, NoMemory>
         ensures goes { bench.Goes (bench_of self.old) (bench_of self.new) (bench.Look at number result) }
         ensures given { IfOk result (λ work. IfSome work (bench.IsGiven (bench_of self.new))) }
+        ensures stays { IsStill (desk_of self.old) (desk_of self.new) }
         ensures turn { IsOneTurn (LookAt at number) (λ acted. acted ≡ LookedAt result) (desk_of self.old) (desk_of self.new) }
     {
         let work = self.desk.look(at, number);
@@ -92,6 +94,7 @@ impl<R: Wait + Clock> Bench for WorkBench<R> {
     fn finish(&mut self, done: Done) -> Finished
         requires { bench.WasGiven (bench_of self.old) done }
         ensures goes { bench.Goes (bench_of self.old) (bench_of self.new) (bench.Finish done result) }
+        ensures stays { IsStill (desk_of self.old) (desk_of self.new) }
         ensures turn { IsOneTurn (FinishOf done) (IsFinish result) (desk_of self.old) (desk_of self.new) }
     {
         let solved = Snapshot::of(&done);

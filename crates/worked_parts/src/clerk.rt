@@ -4,7 +4,7 @@ ghost use Rattle.std.specs.Vec.{vec_capacity};
 
 use dom_base::Bytes;
 use server_loops::model::{Event, Outcome, Refused};
-use server_loops::{Desk, DeskRefused, Guide, Rest};
+use server_loops::{Desk, DeskRefused, Guide, Rest, Sited};
 use std::alloc::Global;
 use std::mem::replace;
 use std::snapshot::Snapshot;
@@ -152,6 +152,12 @@ impl Clerk {
         }
         Some(())
     }
+}
+
+impl Sited for Clerk {
+    ghost Site = { Unit {0} };
+
+    ghost site = { λ d. tt };
 }
 
 impl Desk for Clerk {

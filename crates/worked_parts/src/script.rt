@@ -4,7 +4,7 @@ ghost use Rattle.std.specs.Vec.{vec_capacity};
 
 use dom_base::{As, NoMemory};
 use server_loops::model::{Event, Outcome, Refused};
-use server_loops::{Chart, DeskRefused};
+use server_loops::{Chart, DeskRefused, Sited};
 use std::alloc::Global;
 use std::snapshot::Snapshot;
 use std::sync::Arc;
@@ -109,6 +109,12 @@ impl Script {
         self.left -= 1;
         true
     }
+}
+
+impl Sited for Script {
+    ghost Site = { Unit {0} };
+
+    ghost site = { λ d. tt };
 }
 
 impl Chart for Script {

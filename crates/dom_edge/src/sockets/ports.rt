@@ -25,8 +25,8 @@ use std::os::fd::AsRawFd;
 use std::sync::Arc;
 use std::time::Clock;
 
-// As many ports can be shared at most.
-const SHARED: usize = 256;
+// As many ports of the system are held at most.
+const SHARED: usize = 1_024;
 
 // The system's number of the error that it knows no addresses of that family.
 const NO_SUCH_FAMILY: i32 = 97;
@@ -34,10 +34,10 @@ const NO_SUCH_FAMILY: i32 = 97;
 /// The ports of the system, at one address of the machine. The unspecified address of IPv4 (`0.0.0.0`)
 /// stands for each of its addresses of IPv4; that of IPv6 (`::`) for each address of either kind, where
 /// the system is not told to keep them apart, and on a machine without IPv6 for each of IPv4. A port
-/// that is in use, or that may not be listened at, is a failure.
+/// that others use, or that may not be listened at, is a failure.
 ///
-/// Who asks for the connections of one address may share a port with others who do, each for another address: then the system is asked
-/// for that port once. A port that is dialled asks the system for nothing yet.
+/// Several may listen at one port, for whoever comes or each for another address: the system is asked for that port once. A port
+/// that is dialled asks the system for nothing yet.
 #[derive(Drop)]
 pub struct SocketPorts<R: Net + Clock + Copy + Drop> {
     rt: R,
@@ -157,12 +157,24 @@ impl<R: Net + Clock + Copy + Drop> SocketPorts<R> {
         Ok(shared)
     }
 
-    // A listener for whoever comes.
-    fn open(&self, port: u16) -> io::Result<PortListener<R>>
-        ensures { IfOk result (λ l. (at : SocketAddr) × (l ≡ new_port at None None) × IsBoundAt self.now.address port at) }
+    // The port, which others may share from now on.
+    fn share(&mut self, port: u16) -> io::Result<Arc<SharedPort<R::Listener>, Global>>
+        ensures bound { IfOk result (λ p. IsBoundAt self.old.address port (arc_value p).at) }
+        ensures same { self.new ≡ self.old }
+    {
+        match self.find(port)? {
+            Some(shared) => Ok(shared),
+            None => self.bind_shared(port),
+        }
+    }
+
+    // A listener for whoever comes. Of several at one port each connection goes to the one that is the first to take it.
+    fn open(&mut self, port: u16) -> io::Result<PortListener<R>>
+        ensures opened { IfOk result (λ l. (at : SocketAddr) × (l ≡ new_port at None None) × IsBoundAt self.old.address port at) }
+        ensures same { self.new ≡ self.old }
     {
         let place = Place::new(&self.rt, self.alloc)?;
-        let shared = self.bind_new(port)?;
+        let shared = self.share(port)?;
         place.add_port(shared.listener.as_raw_fd())?;
         Ok(PortListener::hearing(self.rt, shared, place, None))
     }
@@ -173,10 +185,7 @@ impl<R: Net + Clock + Copy + Drop> SocketPorts<R> {
         ensures same { self.new ≡ self.old }
     {
         let place = Place::new(&self.rt, self.alloc)?;
-        let shared = match self.find(port)? {
-            Some(shared) => shared,
-            None => self.bind_shared(port)?,
-        };
+        let shared = self.share(port)?;
         place.add_port(shared.listener.as_raw_fd())?;
         let Ok(bell) = place.box_bell() else {
             return Err(no_memory());

@@ -19,7 +19,7 @@ returns-in_err-found-clause-goes g c =
     let list = (published c.args.publisher.now) in
     let into = c.args.into.now.items in
     rw (p.1, p.2) (asked_goes_out (ChangesFile c.args.network.now k at c.args.line.name.now c.args.file.now list) at c.in_err-found.field-0.0 (g.D.Chart.charted c.args.desk.now) (g.D.Chart.charted c.ask.new.desk) list (Ok None)
-    (record { calls = Mapped at (Ok None) ∷ []; shown = []; text = answer_line k (Err NoSuchPeer) }) [] into into (inr (c.args.changes.now, c.requires.says, (Ok None, refl))) refl c.in_err-found.ensures)
+    (record { calls = Mapped at (Ok None) ∷ []; shown = []; text = answer_line k (Err NoSuchPeer) }) [] into into (inr (c.args.changes.now, c.requires.says, (Ok None, refl))) refl c.in_err-found.ensures.asked)
 
 pub returns-in-Some-clause-goes : goal.returns-in-Some-clause-goes
 returns-in-Some-clause-goes g c =
@@ -28,7 +28,7 @@ returns-in-Some-clause-goes g c =
     let old = (g.D.Chart.charted c.args.desk.now) in
     let new = (g.D.Chart.charted c.ask.new.desk) in
     let k = c.in-Some._number in
-    let asked : Asked at (Ok (Some (k, arc_value c.in-Some.topology))) old new = rw c.in-Some.is at c.in_ok-found.ensures in
+    let asked : Asked at (Ok (Some (k, arc_value c.in-Some.topology))) old new = rw c.in-Some.is at c.in_ok-found.ensures.asked in
     c.load_changed.ensures.goes k (past old list) (subst (λ (t : Rows). new.calls ≡ old.calls ++ Mapped at (Ok (Some (k, t))) ∷ []) (sym c.deref.ensures) asked.0) refl
 
 pub returns-in-None-clause-goes : goal.returns-in-None-clause-goes
@@ -38,6 +38,6 @@ returns-in-None-clause-goes g c =
     let list = (published c.args.publisher.now) in
     let old = (g.D.Chart.charted c.args.desk.now) in
     let new = (g.D.Chart.charted c.ask.new.desk) in
-    let asked : Asked at (Ok None) old new = rw c.in-None.is at c.in_ok-found.ensures in
+    let asked : Asked at (Ok None) old new = rw c.in-None.is at c.in_ok-found.ensures.asked in
     asked_told (ChangesFile c.args.network.now k at c.args.line.name.now c.args.file.now list) at (Ok None) (answer_line k (Err NoSuchPeer)) c.tell_answer.result old new list c.args.into.now.items c.tell_answer.new.into.items
     (inr (c.args.changes.now, c.requires.says, (Ok None, refl))) asked.1 asked.0 c.tell_answer.ensures.told c.tell_answer.ensures.lack

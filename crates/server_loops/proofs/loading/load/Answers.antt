@@ -18,7 +18,7 @@ returns-in_err-publish_loaded-clause-goes g c =
     let b = past (g.D.Chart.charted c.publish_loaded.new.desk) (published c.publish_loaded.new.publisher) in
     let spent = (g.D.Chart.charted c.publish_loaded.new.desk).spent in
     let answer = c.in_ok-answer.answer in
-    rw (p.1, p.2) (load_unshown n c.args.line.number at c.args.topology answer a m b end spent c.args.into.now.items c.args.into.now.items c.in_ok-answer.ensures.0 refl
+    rw (p.1, p.2) (load_unshown n c.args.line.number at c.args.topology answer a m b end spent c.args.into.now.items c.args.into.now.items c.in_ok-answer.ensures.acted.0 refl
     (subst (λ (d : Bool). Publishes (Err end) at (d && is_element n at) m b spent) c.is_done.ensures c.in_err-publish_loaded.ensures.publishes))
 
 pub returns-clause-goes : goal.returns-clause-goes
@@ -31,5 +31,5 @@ returns-clause-goes g c =
     let b = past (g.D.Chart.charted c.publish_loaded.new.desk) (published c.publish_loaded.new.publisher) in
     let spent = (g.D.Chart.charted c.publish_loaded.new.desk).spent in
     let answer = c.in_ok-answer.answer in
-    load_told n c.args.line.number at c.args.topology answer c.tell_answer.result a m b spent c.args.into.now.items c.tell_answer.new.into.items c.in_ok-answer.ensures.0 refl
+    load_told n c.args.line.number at c.args.topology answer c.tell_answer.result a m b spent c.args.into.now.items c.tell_answer.new.into.items c.in_ok-answer.ensures.acted.0 refl
     (subst (λ (d : Bool). Publishes (Ok tt) at (d && is_element n at) m b spent) c.is_done.ensures c.in_ok-publish_loaded.ensures.publishes) c.tell_answer.ensures.told c.tell_answer.ensures.lack

@@ -16,6 +16,7 @@ loop-turn-init g c =
     record {
       running = none_run x q a (sides (side (g.I.Source.left c.args.input.now) (g.I.Source.faults c.args.input.now)) (side (g.K.Sink.written c.args.out.now) (g.K.Sink.faults c.args.out.now))) c.new-begun.ensures.before c.new-begun.ensures.begun;
       fresh = c.requires.fresh;
+      stays = λ site is. is;
       elements = c.requires.elements;
       list = refl;
       files = refl;
@@ -52,6 +53,7 @@ loop-turn-preserved g c =
       running = run_on x q r a b d old mid new c.loop-turn._turn is
           (subst (λ (fs : Option Files). IsTurn (context c.args.network.now fs) is.line q r b d mid new) c.loop-turn.invariant.files (c.in-Ok.ensures.turned is.line is.is_begun));
       fresh = c.in-Ok.ensures.leaves;
+      stays = λ site is. c.turn.ensures.stays site (c.loop-turn.invariant.stays site is);
       elements = c.turn.ensures.elements;
       list = c.turn.ensures.list ∙ c.loop-turn.invariant.list;
       files = c.turn.ensures.files ∙ c.loop-turn.invariant.files;

@@ -2,6 +2,7 @@ use Rattle.std.proofs.Common.{◌≡◌, None}
 use Rattle.ted_watch.specs.Watch.{list_of, published}
 use Rattle.server_loops.specs.Operating.{AreOfElements, context, side, sides, progress}
 use Rattle.server_loops.specs.OperatorSteps.{begun}
+use Rattle.server_loops.specs.Sites.{Stays}
 use Rattle.server_loops.proofs.OperatorTurning.{IsRunning}
 use Rattle.server_loops.proofs.operating.run.Given as goal
 
@@ -13,6 +14,7 @@ invariant-loop-turn g l = record {
       (sides (side (g.I.Source.left l.initial.input) (g.I.Source.faults l.initial.input)) (side (g.K.Sink.written l.initial.out) (g.K.Sink.faults l.initial.out)))
       (sides (side (g.I.Source.left l.input) (g.I.Source.faults l.input)) (side (g.K.Sink.written l.out) (g.K.Sink.faults l.out)));
   fresh : (g.D.Chart.charted l.desk).spent ≡ None;
+  stays : Stays g.D.Sited.is_at l.initial.desk l.desk;
   elements : AreOfElements l.network (published l.publisher);
   list : list_of l.publisher ≡ list_of l.initial.publisher;
   files : g.T.Store.files l.store ≡ g.T.Store.files l.initial.store;

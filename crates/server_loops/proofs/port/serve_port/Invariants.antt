@@ -1,5 +1,6 @@
 use Rattle.std.proofs.Common.{◌≡◌}
 use Rattle.server_loops.specs.Serving.{heard}
+use Rattle.server_loops.specs.Sites.{Stays}
 use Rattle.server_loops.proofs.Hosting.{IsHosting}
 use Rattle.server_loops.proofs.port.serve_port.Given as goal
 
@@ -9,4 +10,5 @@ invariant-loop-turn g l = record {
   port : g.K.Listener.opened_at l.listener ≡ g.K.Listener.opened_at l.initial.listener;
   heeds : g.K.Listener.heeds l.listener ≡ g.K.Listener.heeds l.initial.listener;
   dials : g.K.Listener.dialled_to l.listener ≡ g.K.Listener.dialled_to l.initial.listener;
+  stays : Stays g.D.Sited.is_at l.initial.desk l.desk;
 }

@@ -18,14 +18,14 @@ returns-in-Some-clause-publishes g c =
     let more = (published c.show_newer.new.publisher) in
     let r = c.show_newer.result in
     let e : c.entry_of.result ≡ entry_of at found = c.entry_of.ensures ∙ ap (λ (t : Rows). entry_of at (c.in-Some.generation, t)) c.deref.ensures in
-    shown_goes at found r (g.D.Chart.charted c.args.desk.now) (g.D.Chart.charted c.ask.new.desk) list more (rw c.in-Some.is at c.in_ok-found.ensures)
+    shown_goes at found r (g.D.Chart.charted c.args.desk.now) (g.D.Chart.charted c.ask.new.desk) list more (rw c.in-Some.is at c.in_ok-found.ensures.asked)
     (subst (λ (s : Shown). OnOk r (more ≡ list ++ (if is_newer s.generation (generation_of (last_of s.at.0 list)) then s ∷ [] else []))) e c.show_newer.ensures.shown) c.show_newer.ensures.same
 
 pub returns-in-None-clause-publishes : goal.returns-in-None-clause-publishes
 returns-in-None-clause-publishes g c =
-    shown_none c.args.at (g.D.Chart.charted c.args.desk.now) (g.D.Chart.charted c.ask.new.desk) (published c.args.publisher.now) (rw c.in-None.is at c.in_ok-found.ensures)
+    shown_none c.args.at (g.D.Chart.charted c.args.desk.now) (g.D.Chart.charted c.ask.new.desk) (published c.args.publisher.now) (rw c.in-None.is at c.in_ok-found.ensures.asked)
 
 pub returns-in_err-found-clause-publishes : goal.returns-in_err-found-clause-publishes
 returns-in_err-found-clause-publishes g c =
     let p = err_from_is_err_and c.from_residual.result c.from_residual.ensures.1 in
-    rw (p.1, p.2) (asked_out c.args.at c.in_err-found.field-0.0 (g.D.Chart.charted c.args.desk.now) (g.D.Chart.charted c.ask.new.desk) (published c.args.publisher.now) c.in_err-found.ensures)
+    rw (p.1, p.2) (asked_out c.args.at c.in_err-found.field-0.0 (g.D.Chart.charted c.args.desk.now) (g.D.Chart.charted c.ask.new.desk) (published c.args.publisher.now) c.in_err-found.ensures.asked)

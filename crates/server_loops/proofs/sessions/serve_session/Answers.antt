@@ -10,7 +10,7 @@ returns-in-Err-clause-serves g c =
     let old = g.D.Desk.desked c.args.desk.now in
     let new = g.D.Desk.desked c.act.new.self in
     let s = sides (g.L.Wire.reading c.args.link.now) (g.L.Wire.writing c.args.link.now) in
-    unopened_session c.args.peer c.args.holder c.args.turns old new s c.in-Err.why c.unopened.result c.in-Err.ensures c.unopened.ensures
+    unopened_session c.args.peer c.args.holder c.args.turns old new s c.in-Err.why c.unopened.result c.in-Err.ensures.goes c.unopened.ensures
 
 pub returns-clause-serves : goal.returns-clause-serves
 returns-clause-serves g c =
@@ -21,5 +21,5 @@ returns-clause-serves g c =
     let before = sides (g.L.Wire.reading c.args.link.now) (g.L.Wire.writing c.args.link.now) in
     let after = sides (g.L.Wire.reading c.serve_open-end.new.link) (g.L.Wire.writing c.serve_open-end.new.link) in
     let outcome = c.in_default.field-0 in
-    let goes : Goes old opened (Open c.args.peer c.args.holder) (Ok outcome) = rw c.in_default.is at c.act.ensures in
-    closed c.args.peer c.args.holder c.args.turns outcome old opened served new before after c.serve_open-end.result c.shut.result goes c.serve_open-end.ensures c.shut.ensures
+    let goes : Goes old opened (Open c.args.peer c.args.holder) (Ok outcome) = rw c.in_default.is at c.act.ensures.goes in
+    closed c.args.peer c.args.holder c.args.turns outcome old opened served new before after c.serve_open-end.result c.shut.result goes c.serve_open-end.ensures.served c.shut.ensures.closed

@@ -18,6 +18,7 @@ loop-byte-init g c =
     record {
       takes = λ line is. none_fed x line f a (side (g.K.Sink.written c.args.out.now) (g.K.Sink.faults c.args.out.now)) is;
       fresh = c.requires.fresh;
+      stays = λ site is. is;
       elements = c.requires.elements;
       list = refl;
       files = refl;
@@ -73,6 +74,7 @@ loop-byte-preserved g c =
           subst (λ (fs : Option Files). Feeds (context c.args.network.now fs) (byte ∷ []) (Ok tt) before.left m h b d v w) c.loop-byte.invariant.files (rw c.in_ok-take_byte.was at c.take_byte.ensures.feeds before.left before.is_begun) in
           subst (λ (l : List ℕ). TakesOn x l line f h a d o w) (sym (take_more xs i 0 lt)) (fed_on x a b d o v w (take i xs) (byte ∷ []) line f m h (Ok tt) before one);
       fresh = lasts;
+      stays = λ site is. c.take_byte.ensures.stays site (c.loop-byte.invariant.stays site is);
       elements = c.take_byte.ensures.elements;
       list = c.take_byte.ensures.list ∙ c.loop-byte.invariant.list;
       files = c.take_byte.ensures.files ∙ c.loop-byte.invariant.files;

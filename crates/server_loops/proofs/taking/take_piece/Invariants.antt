@@ -2,6 +2,7 @@ use Rattle.std.proofs.Common.{◌≡◌, ℕ, List, None, take}
 use Rattle.ted_watch.specs.Watch.{list_of, published}
 use Rattle.server_loops.specs.Operating.{AreOfElements, context, progress, side}
 use Rattle.server_loops.specs.OperatorSteps.{IsBegun, TakesOn, begun}
+use Rattle.server_loops.specs.Sites.{Stays}
 use Rattle.server_loops.proofs.taking.take_piece.Given as goal
 
 -- the bytes up to there were taken
@@ -13,6 +14,7 @@ invariant-loop-byte g l = record {
       (progress (g.D.Chart.charted l.desk) (published l.publisher) (g.T.Store.faults l.store) (g.T.Store.failed_at l.store))
       (side (g.K.Sink.written l.initial.out) (g.K.Sink.faults l.initial.out)) (side (g.K.Sink.written l.out) (g.K.Sink.faults l.out));
   fresh : (g.D.Chart.charted l.desk).spent ≡ None;
+  stays : Stays g.D.Sited.is_at l.initial.desk l.desk;
   elements : AreOfElements l.network (published l.publisher);
   list : list_of l.publisher ≡ list_of l.initial.publisher;
   files : g.T.Store.files l.store ≡ g.T.Store.files l.initial.store;

@@ -14,6 +14,7 @@ loop-turn-preserved g c =
     let reading = c.now-now.result.0 in
     record {
       telling = subst (λ n. IsTelling (c.loop-turn._turn + 1) c.tell-told.result old new last n) (sym c.now-now.ensures.reading)
-          (one_told c.loop-turn._turn c.loop-turn.told old mid new last now c.loop-turn.invariant.telling reading c.now-now.ensures.never_falls c.tell-told.result c.tell-told.ensures);
+          (one_told c.loop-turn._turn c.loop-turn.told old mid new last now c.loop-turn.invariant.telling reading c.now-now.ensures.never_falls c.tell-told.result c.tell-told.ensures.told);
+      stays = λ site is. c.tell-told.ensures.stays site (c.loop-turn.invariant.stays site is);
       counted = c.now-now.ensures.counted ∙ ap next_count c.loop-turn.invariant.counted ∙ sym (counted_more c.loop-turn._turn (g.C.Clock.readings c.args.clock.now));
     }

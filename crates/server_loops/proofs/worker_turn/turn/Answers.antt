@@ -9,32 +9,32 @@ use Rattle.server_loops.proofs.Righting.{right_grows}
 use Rattle.server_loops.proofs.WorkerTurning.{idle_turn, late_turn, broken_look, full_turn, stays_of, stays_on, live, none_of, one_call}
 use Rattle.server_loops.proofs.worker_turn.turn.Goals as goal
 
-pub returns-in_default : goal.returns-in_default
-returns-in_default g c =
+pub returns-in_default-clause-turned : goal.returns-in_default-clause-turned
+returns-in_default-clause-turned g c =
     let old = g.B.Bench.benched c.args.bench.now in
     let new = g.B.Bench.benched c.find.new.bench in
-    let f : IsFound c.args.index old new None = rw c.in_default.is at c.find.ensures in
+    let f : IsFound c.args.index old new None = rw c.in_default.is at c.find.ensures.found in
     idle_turn c.args.index old new (g.G.Gate.passed c.args.gate.now) c.args.cache.now f c.requires
 
-pub returns-in_err-work : goal.returns-in_err-work
-returns-in_err-work g c =
+pub returns-in_err-work-clause-turned : goal.returns-in_err-work-clause-turned
+returns-in_err-work-clause-turned g c =
     let old = g.B.Bench.benched c.args.bench.now in
     let mid = g.B.Bench.benched c.find.new.bench in
     let new = g.B.Bench.benched c.look.new.self in
     let job : As × ℕ = (c.in-Some.at, c.in-Some.number) in
     let e = c.in_err-work.field-0.0 in
     let p = err_from_is_err_and c.from_residual.result c.from_residual.ensures.1 in
-    let f : IsFound c.args.index old mid (Some job) = rw c.in-Some.is at c.find.ensures in
+    let f : IsFound c.args.index old mid (Some job) = rw c.in-Some.is at c.find.ensures.found in
     let looked : Goes mid new (Look job.0 job.1 (Err e)) = rw c.in_err-work.was at c.look.ensures.goes in
     rw p.1 (broken_look c.args.index old mid new (g.G.Gate.passed c.args.gate.now) c.args.cache.now job e f looked)
 
-pub returns-in_default-2 : goal.returns-in_default-2
-returns-in_default-2 g c =
+pub returns-in_default-2-clause-turned : goal.returns-in_default-2-clause-turned
+returns-in_default-2-clause-turned g c =
     let old = g.B.Bench.benched c.args.bench.now in
     let mid = g.B.Bench.benched c.find.new.bench in
     let new = g.B.Bench.benched c.look.new.self in
     let job : As × ℕ = (c.in-Some.at, c.in-Some.number) in
-    let f : IsFound c.args.index old mid (Some job) = rw c.in-Some.is at c.find.ensures in
+    let f : IsFound c.args.index old mid (Some job) = rw c.in-Some.is at c.find.ensures.found in
     let looked : Goes mid new (Look job.0 job.1 (Ok None)) = rw (c.in_ok-work.was, c.in_default-2.is) at c.look.ensures.goes in
     late_turn c.args.index old mid new (g.G.Gate.passed c.args.gate.now) c.args.cache.now job f looked c.requires
 
@@ -54,17 +54,17 @@ finish-requires-clause-right g c =
     let new = g.B.Bench.benched c.look.new.self in
     let call = Look c.in-Some.at c.in-Some.number (Ok (Some c.in-Some-2.work)) in
     let looked : Goes mid new call = rw (c.in_ok-work.was, c.in-Some-2.is) at c.look.ensures.goes in
-    right_grows old new c.args.cache.now (stays_on old mid new c.find.ensures.stays (stays_of mid new call looked)) c.requires
+    right_grows old new c.args.cache.now (stays_on old mid new c.find.ensures.found.stays (stays_of mid new call looked)) c.requires
 
-pub returns : goal.returns
-returns g c =
+pub returns-clause-turned : goal.returns-clause-turned
+returns-clause-turned g c =
     let old = g.B.Bench.benched c.args.bench.now in
     let mid = g.B.Bench.benched c.find.new.bench in
     let looked_at = g.B.Bench.benched c.look.new.self in
     let new = g.B.Bench.benched c.finish.new.bench in
     let job : As × ℕ = (c.in-Some.at, c.in-Some.number) in
     let work = c.in-Some-2.work in
-    let f : IsFound c.args.index old mid (Some job) = rw c.in-Some.is at c.find.ensures in
+    let f : IsFound c.args.index old mid (Some job) = rw c.in-Some.is at c.find.ensures.found in
     let looked : Goes mid looked_at (Look job.0 job.1 (Ok (Some work))) = rw (c.in_ok-work.was, c.in-Some-2.is) at c.look.ensures.goes in
     rw c.before-2.ensures
-    (full_turn c.args.index old mid looked_at new (g.G.Gate.passed c.args.gate.now) c.args.cache.now c.finish.new.cache job work f looked c.finish.result c.finish.ensures)
+    (full_turn c.args.index old mid looked_at new (g.G.Gate.passed c.args.gate.now) c.args.cache.now c.finish.new.cache job work f looked c.finish.result c.finish.ensures.finished)

@@ -12,8 +12,8 @@ returns-in-Err-clause-runs g c =
     let passed_mid = g.G.Gate.passed c.loop-turn.gate in
     let passed_after = g.G.Gate.passed c.turn.new.gate in
     let live : mid.spent ≡ None = sym c.spent.ensures ∙ c.in_default.is in
-    let t : IsTurned c.args.index (Err c.in-Err.field-0) mid new passed_mid passed_after c.loop-turn.cache c.turn.new.cache = rw c.in-Err.is at c.turn.ensures in
-    broken c.args.index c.loop-turn._turn old mid new passed passed_mid passed_after c.loop-turn.cache c.turn.new.cache c.loop-turn.invariant c.args.turns c.in-Err.field-0 live
+    let t : IsTurned c.args.index (Err c.in-Err.field-0) mid new passed_mid passed_after c.loop-turn.cache c.turn.new.cache = rw c.in-Err.is at c.turn.ensures.turned in
+    broken c.args.index c.loop-turn._turn old mid new passed passed_mid passed_after c.loop-turn.cache c.turn.new.cache c.loop-turn.invariant.running c.args.turns c.in-Err.field-0 live
     c.loop-turn-test.true t
 
 pub loop-turn-preserved : goal.loop-turn-preserved
@@ -25,8 +25,11 @@ loop-turn-preserved g c =
     let passed_mid = g.G.Gate.passed c.loop-turn.gate in
     let passed_after = g.G.Gate.passed c.turn.new.gate in
     let live : mid.spent ≡ None = sym c.spent.ensures ∙ c.in_default.is in
-    let t : IsTurned c.args.index (Ok tt) mid new passed_mid passed_after c.loop-turn.cache c.turn.new.cache = rw c.in_default-turn.is at c.turn.ensures in
-    one_more c.args.index c.loop-turn._turn old mid new passed passed_mid passed_after c.loop-turn.cache c.turn.new.cache c.loop-turn.invariant live t
+    let t : IsTurned c.args.index (Ok tt) mid new passed_mid passed_after c.loop-turn.cache c.turn.new.cache = rw c.in_default-turn.is at c.turn.ensures.turned in
+    record {
+      running = one_more c.args.index c.loop-turn._turn old mid new passed passed_mid passed_after c.loop-turn.cache c.turn.new.cache c.loop-turn.invariant.running live t;
+      stays = λ site is. c.turn.ensures.stays site (c.loop-turn.invariant.stays site is);
+    }
 
 pub loop-turn-init : goal.loop-turn-init
-loop-turn-init g c = set_out c.args.index (g.B.Bench.benched c.args.bench.now) (g.G.Gate.passed c.args.gate.now) c.args.cache.now c.requires
+loop-turn-init g c = record { running = set_out c.args.index (g.B.Bench.benched c.args.bench.now) (g.G.Gate.passed c.args.gate.now) c.args.cache.now c.requires; stays = λ site is. is }

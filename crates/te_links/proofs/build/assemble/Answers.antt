@@ -12,7 +12,6 @@ use Rattle.te_links.specs.Faults.{rows_of_parts}
 use Rattle.te_links.proofs.Compared.{rising_from_sort}
 use Rattle.te_links.proofs.Moved.{moved, strictly, links_rise, outs_rise, entries_rise, entries_compared}
 use Rattle.te_links.proofs.Moved.{permuted_differ}
-use Rattle.te_links.proofs.Grouping.{index_of, index_from, heads_within, tails_within}
 use Rattle.te_links.proofs.build.assemble.Goals as goal
 
 pub of-requires-clause-rules : goal.of-requires-clause-rules
@@ -43,55 +42,28 @@ of-requires-clause-order c =
           rules_hold.entries_differ;
     }
 
-pub ends_of-requires-clause-nodes_rise : goal.ends_of-requires-clause-nodes_rise
-ends_of-requires-clause-nodes_rise c =
+pub of_links-requires-clause-nodes_rise : goal.of_links-requires-clause-nodes_rise
+of_links-requires-clause-nodes_rise c =
     let nodes = c.sort.new.self.items in
     let moves = rw c.into_vec-nodes.ensures at c.in_ok-sort.ensures.permutation in
     let up = IsNonDecreasingBy-from_sort (λ (a : Addr). rank a) nodes c.in_ok-sort.ensures.sorted in
     rw c.deref.ensures.value (strictly (λ (a : Addr). a) nodes up (permuted_differ c.args.parts.nodes nodes moves c.requires.rules.nodes_differ))
 
-pub ends_of-requires-clause-from : goal.ends_of-requires-clause-from
-ends_of-requires-clause-from c =
+pub of_links-requires-clause-from : goal.of_links-requires-clause-from
+of_links-requires-clause-from c =
     let g : Rows = record { own = c.args.parts.own; nodes = c.sort.new.self.items; links = c.sort_by_key.new.self.items; outs = c.sort_by_key-2.new.self.items; entries = c.sort-2.new.self.items } in
     let rules_hold : IsTopology g = moved (rows_of_parts c.args.parts) g.nodes g.links g.outs g.entries c.requires.rules
     (rw c.into_vec-nodes.ensures at c.in_ok-sort.ensures.permutation) (rw c.into_vec-links.ensures at c.in_ok-sort_by_key.ensures.permutation)
     (rw c.into_vec-outs.ensures at c.in_ok-sort_by_key-2.ensures.permutation) (rw c.into_vec-entries.ensures at c.in_ok-sort-2.ensures.permutation) in
     rw (c.deref.ensures.value, c.deref-2.ensures.value) (λ k d below. (rules_hold.links k d below).link.from)
 
-pub ends_of-requires-clause-to : goal.ends_of-requires-clause-to
-ends_of-requires-clause-to c =
+pub of_links-requires-clause-to : goal.of_links-requires-clause-to
+of_links-requires-clause-to c =
     let g : Rows = record { own = c.args.parts.own; nodes = c.sort.new.self.items; links = c.sort_by_key.new.self.items; outs = c.sort_by_key-2.new.self.items; entries = c.sort-2.new.self.items } in
     let rules_hold : IsTopology g = moved (rows_of_parts c.args.parts) g.nodes g.links g.outs g.entries c.requires.rules
     (rw c.into_vec-nodes.ensures at c.in_ok-sort.ensures.permutation) (rw c.into_vec-links.ensures at c.in_ok-sort_by_key.ensures.permutation)
     (rw c.into_vec-outs.ensures at c.in_ok-sort_by_key-2.ensures.permutation) (rw c.into_vec-entries.ensures at c.in_ok-sort-2.ensures.permutation) in
     rw (c.deref.ensures.value, c.deref-2.ensures.value) (λ k d below. (rules_hold.links k d below).to)
 
-pub links_by-requires-clause-known : goal.links_by-requires-clause-known
-links_by-requires-clause-known c =
-    let count : c.len.result ≡ length c.deref.result.now = c.len.ensures ∙ sym c.deref.ensures.len in
-    rw (c.deref-3.ensures.value, count) (heads_within c.deref.result.now c.deref-2.result.now c.in_ok-ends.ends.heads.items c.in_ok-ends.ensures.heads)
-
-pub links_by-requires-2-clause-known : goal.links_by-requires-2-clause-known
-links_by-requires-2-clause-known c =
-    let count : c.len-2.result ≡ length c.deref.result.now = c.len-2.ensures ∙ sym c.deref.ensures.len in
-    rw (c.deref-4.ensures.value, count) (tails_within c.deref.result.now c.deref-2.result.now c.in_ok-ends.ends.tails.items c.in_ok-ends.ensures.tails)
-
 pub of-requires-clause-index : goal.of-requires-clause-index
-of-requires-clause-index c =
-    let nodes = c.sort.new.self.items in
-    let moves = rw c.into_vec-nodes.ensures at c.in_ok-sort.ensures.permutation in
-    let up = strictly (λ (a : Addr). a) nodes (IsNonDecreasingBy-from_sort (λ (a : Addr). rank a) nodes c.in_ok-sort.ensures.sorted) (permuted_differ c.args.parts.nodes nodes moves c.requires.rules.nodes_differ) in
-    let count : c.len.result ≡ length nodes = c.len.ensures ∙ sym c.deref.ensures.len ∙ ap length c.deref.ensures.value in
-    index_of nodes c.sort_by_key.new.self.items c.in_ok-ends.ends.heads.items c.in_ok-into.into.items up
-    (rw (c.deref.ensures.value, c.deref-2.ensures.value) at c.in_ok-ends.ensures.heads)
-    (rw (c.deref-3.ensures.value, count) at c.in_ok-into.ensures)
-
-pub of-requires-clause-leaving : goal.of-requires-clause-leaving
-of-requires-clause-leaving c =
-    let nodes = c.sort.new.self.items in
-    let moves = rw c.into_vec-nodes.ensures at c.in_ok-sort.ensures.permutation in
-    let up = strictly (λ (a : Addr). a) nodes (IsNonDecreasingBy-from_sort (λ (a : Addr). rank a) nodes c.in_ok-sort.ensures.sorted) (permuted_differ c.args.parts.nodes nodes moves c.requires.rules.nodes_differ) in
-    let count : c.len-2.result ≡ length nodes = c.len-2.ensures ∙ sym c.deref.ensures.len ∙ ap length c.deref.ensures.value in
-    index_from nodes c.sort_by_key.new.self.items c.in_ok-ends.ends.tails.items c.in_ok-leaving.leaving.items up
-    (rw (c.deref.ensures.value, c.deref-2.ensures.value) at c.in_ok-ends.ensures.tails)
-    (rw (c.deref-4.ensures.value, count) at c.in_ok-leaving.ensures)
+of-requires-clause-index c = let is = rw (c.deref.ensures.value, c.deref-2.ensures.value) at c.in_ok-index.ensures in is

@@ -1,5 +1,5 @@
 use Rattle.std.proofs.Common.{arith}
-use Rattle.te_links.proofs.Nothing.{nothing_is, nothing_in_order, nothing_indexed, nothing_begins, nothing_ends, nothing_leaving}
+use Rattle.te_links.proofs.Nothing.{nothing_is, nothing_in_order}
 use Rattle.te_links.proofs.topology.Topology.empty.Goals as goal
 
 pub invariant_of-result : goal.invariant_of-result
@@ -7,8 +7,5 @@ invariant_of-result c = record {
   rules = rw (c.new.ensures.items, c.new-2.ensures.items, c.new-3.ensures.items, c.new-4.ensures.items) (nothing_is c.args.own);
   order = rw (c.new.ensures.items, c.new-2.ensures.items, c.new-3.ensures.items, c.new-4.ensures.items) (nothing_in_order c.args.own);
   short = rw c.new-4.ensures.items (omega arith);
-  index = rw (c.new.ensures.items, c.new-2.ensures.items, c.new-5.ensures.items) nothing_indexed;
-  tails = rw (c.new.ensures.items, c.new-2.ensures.items, c.none-2.ensures.tails) nothing_begins;
-  heads = rw (c.new.ensures.items, c.new-2.ensures.items, c.none-2.ensures.heads) nothing_ends;
-  leaving = rw (c.new.ensures.items, c.new-2.ensures.items, c.new-6.ensures.items) nothing_leaving;
+  index = rw (c.new.ensures.items, c.new-2.ensures.items) c.none-2.ensures;
 }

@@ -4,7 +4,7 @@ use Rattle.plant_network.specs.declared.acts.Acted.{Acted}
 use Rattle.plant_network.specs.declared.acts.Acted.TheVariants.{Committed}
 use Rattle.server_loops.specs.Benches as bench
 use Rattle.turn_desk.specs.Desks.{IsTurn, stand_of}
-use Rattle.turn_desk.proofs.Turning.{bench_done, committed_turn, may_finish}
+use Rattle.turn_desk.proofs.Turning.{bench_done, committed_turn, may_finish, turn_still}
 use Rattle.turn_desk.proofs.calls.TurnDeskBench.finish.Goals as goal
 
 pub turn-requires : goal.turn-requires
@@ -24,3 +24,9 @@ returns-in-Ok-clause-goes g c =
     let t : IsTurn (Finish c.args.done) (Ok c.in-Ok.acted) old new = rw c.in-Ok.is at c.turn.ensures in
     let u : IsTurn (Finish c.args.done) (Ok (Committed c.committed_in.result)) old new = subst (λ (a : Acted). IsTurn (Finish c.args.done) (Ok a) old new) c.committed_in.ensures t in
     bench_done old new (Finish c.args.done) (Committed c.committed_in.result) (bench.Finish c.args.done c.told.result) u (ap (λ f. Some (bench.Finish c.args.done f)) (sym c.told.ensures))
+
+pub returns-in-Ok-clause-stays : goal.returns-in-Ok-clause-stays
+returns-in-Ok-clause-stays g c = turn_still (stand_of c.args.self.now) (stand_of c.turn.new.self) (Finish c.args.done) c.turn.result c.turn.ensures
+
+pub returns-in-Err-clause-stays : goal.returns-in-Err-clause-stays
+returns-in-Err-clause-stays g c = turn_still (stand_of c.args.self.now) (stand_of c.turn.new.self) (Finish c.args.done) c.turn.result c.turn.ensures

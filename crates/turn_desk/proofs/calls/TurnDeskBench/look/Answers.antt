@@ -4,7 +4,7 @@ use Rattle.plant_network.specs.declared.acts.Acted.{Acted}
 use Rattle.plant_network.specs.declared.acts.Acted.TheVariants.{Looked}
 use Rattle.server_loops.specs.Benches as bench
 use Rattle.turn_desk.specs.Desks.{IsTurn, stand_of}
-use Rattle.turn_desk.proofs.Turning.{bench_done, looked_turn, looks_given}
+use Rattle.turn_desk.proofs.Turning.{bench_done, looked_turn, looks_given, turn_still}
 use Rattle.turn_desk.proofs.calls.TurnDeskBench.look.Goals as goal
 
 pub turn-requires : goal.turn-requires
@@ -34,3 +34,9 @@ returns-in-Ok-clause-given g c =
     let t : IsTurn (Look c.args.at c.args.number) (Ok c.in-Ok.acted) old new = rw c.in-Ok.is at c.turn.ensures in
     let u : IsTurn (Look c.args.at c.args.number) (Ok (Looked found)) old new = subst (λ (a : Acted). IsTurn (Look c.args.at c.args.number) (Ok a) old new) c.looked_in.ensures t in
     looks_given old new c.args.at c.args.number found u c.args.self.now.begun
+
+pub returns-in-Ok-clause-stays : goal.returns-in-Ok-clause-stays
+returns-in-Ok-clause-stays g c = turn_still (stand_of c.args.self.now) (stand_of c.turn.new.self) (Look c.args.at c.args.number) c.turn.result c.turn.ensures
+
+pub returns-in-Err-clause-stays : goal.returns-in-Err-clause-stays
+returns-in-Err-clause-stays g c = turn_still (stand_of c.args.self.now) (stand_of c.turn.new.self) (Look c.args.at c.args.number) c.turn.result c.turn.ensures

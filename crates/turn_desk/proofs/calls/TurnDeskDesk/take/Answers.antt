@@ -6,7 +6,7 @@ use Rattle.server_loops.specs.Desks as desk
 use Rattle.turn_desk.specs.Desks.{IsOneTurn, IsTaken, IsTurnTelling, desked_of, stand_of}
 use Rattle.plant_network.specs.network_links.declared.rest.Rest.{Rest}
 use Rattle.server_loops.specs.declared.desks.DeskRefused.{DeskRefused}
-use Rattle.turn_desk.proofs.Turning.{as_turn, did_turn, take_goes, take_turned}
+use Rattle.turn_desk.proofs.Turning.{as_turn, did_turn, take_goes, take_turned, telling_still}
 use Rattle.turn_desk.proofs.calls.TurnDeskDesk.take.Goals as goal
 
 pub turn_telling-requires : goal.turn_telling-requires
@@ -32,3 +32,9 @@ returns-in-Ok-clause-turn g c =
     let new = stand_of c.turn_telling.new.self in
     let t : IsTurnTelling (Do (Take c.args.peer)) (Ok (c.in-Ok.acted, c.in-Ok.rest)) old new = rw c.in-Ok.is at c.turn_telling.ensures in
     subst (λ (r : Result Rest DeskRefused). IsOneTurn (Do (Take c.args.peer)) (IsTaken r) old new) (sym c.taken.ensures) (take_turned old new c.args.peer c.in-Ok.acted c.in-Ok.rest t c.did_in.result c.did_in.ensures)
+
+pub returns-in-Ok-clause-stays : goal.returns-in-Ok-clause-stays
+returns-in-Ok-clause-stays g c = telling_still (stand_of c.args.self.now) (stand_of c.turn_telling.new.self) (Do (Take c.args.peer)) c.turn_telling.result c.turn_telling.ensures
+
+pub returns-in-Err-clause-stays : goal.returns-in-Err-clause-stays
+returns-in-Err-clause-stays g c = telling_still (stand_of c.args.self.now) (stand_of c.turn_telling.new.self) (Do (Take c.args.peer)) c.turn_telling.result c.turn_telling.ensures

@@ -6,6 +6,7 @@ use Rattle.plant_network.specs.declared.acts.Acted.{Acted}
 use Rattle.plant_network.specs.declared.acts.Acted.TheVariants.{Mapped}
 use Rattle.turn_desk.specs.Desks.{IsTurn, stand_of}
 use Rattle.turn_desk.proofs.Charting.{chart_told, mapped_turn}
+use Rattle.turn_desk.proofs.Turning.{turn_still}
 use Rattle.turn_desk.proofs.chart.TurnDeskChart.map.Goals as goal
 
 pub turn-requires : goal.turn-requires
@@ -26,3 +27,9 @@ returns-in-Ok-clause-asks g c =
     let t : IsTurn (Map c.args.at) (Ok c.in-Ok.acted) old new = rw c.in-Ok.is at c.turn.ensures in
     let u : IsTurn (Map c.args.at) (Ok (Mapped found)) old new = subst (λ (a : Acted). IsTurn (Map c.args.at) (Ok a) old new) c.mapped_in.ensures t in
     chart_told old new c.args.at (Mapped found) (current_of arc_value found) u refl
+
+pub returns-in-Ok-clause-stays : goal.returns-in-Ok-clause-stays
+returns-in-Ok-clause-stays g c = turn_still (stand_of c.args.self.now) (stand_of c.turn.new.self) (Map c.args.at) c.turn.result c.turn.ensures
+
+pub returns-in-Err-clause-stays : goal.returns-in-Err-clause-stays
+returns-in-Err-clause-stays g c = turn_still (stand_of c.args.self.now) (stand_of c.turn.new.self) (Map c.args.at) c.turn.result c.turn.ensures
