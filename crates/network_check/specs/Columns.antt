@@ -62,8 +62,11 @@ abbrev pub strange_text : Sheet → ℕ → List ℕ → Option (List ℕ) → L
 strange_text s i label None = []
 strange_text s i label (Some key) = told s.file (value_line s.text s.header i key) (joined (label ∷ codes ": " ∷ shown key ∷ codes " is no key there" ∷ []))
 
+abbrev pub unknown_in : List Column → Members → Option (List ℕ)
+unknown_in cs ms = find (λ k. not (is_column cs k)) (names ms)
+
 abbrev pub unknown_text : Sheet → ℕ → List ℕ → List Column → Members → List ℕ
-unknown_text s i label cs ms = strange_text s i label (find (λ k. not (is_column cs k)) (names ms))
+unknown_text s i label cs ms = strange_text s i label (unknown_in cs ms)
 
 abbrev pub row_text : Sheet → ℕ → List ℕ → List Column → Members → List ℕ
 row_text s i label cs ms = columns_text s i label ms cs ++ unknown_text s i label cs ms

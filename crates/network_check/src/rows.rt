@@ -5,9 +5,8 @@ ghost use Rattle.std.specs.Option.{option_copied};
 ghost use Rattle.std.specs.Str.Lines.{lines as lines_of};
 ghost use Rattle.toml.specs.Data.{get_member};
 ghost use Rattle.toml.specs.View.{items_view, table_view, view};
-ghost use Rattle.plant_text.specs.SettingsText.{names};
 ghost use Rattle.network_check.specs.Kinds.{allowed};
-ghost use Rattle.network_check.specs.Columns.{column, columns_text, field_text, is_column, items_text, kind_text, member_text, name_in, row_label, row_text, rows_text, sheet_of, unknown_text};
+ghost use Rattle.network_check.specs.Columns.{column, columns_text, field_text, is_column, items_text, kind_text, member_text, name_in, row_label, row_text, rows_text, sheet_of, unknown_in, unknown_text};
 
 use crate::kinds::{Kind, fits};
 use crate::places::{row_line, top_line, value_line};
@@ -174,6 +173,15 @@ fn unknown_key<'a>(table: &'a Table, fields: &[Field]) -> Option<&'a String>
     table.keys().find(|key| !is_known(fields, key.as_str()))
 }
 
+fn unknown_name<'a>(table: &'a Table, fields: &[Field]) -> Option<&'a str>
+    ensures { option_map (λ s. s.now) result ≡ unknown_in (map column fields.now) (table_view table.now) }
+{
+    match unknown_key(table, fields) {
+        Some(key) => Some(key.as_str()),
+        None => None,
+    }
+}
+
 // The first key that is not known.
 fn tell_unknown<'x>(
     rows: &Rows<'_>,
@@ -186,9 +194,9 @@ fn tell_unknown<'x>(
     requires short { length (lines_of (sheet_of rows.now).text) < 2 ^ 32 }
     ensures { OnOk result (into.new.items ≡ into.old.items ++ unknown_text (sheet_of rows.now) index label.now (map column fields.now) (table_view table.now)) }
 {
-    match unknown_key(table, fields) {
-        Some(key) => {
-            let key = key.as_str().as_bytes();
+    match unknown_name(table, fields) {
+        Some(name) => {
+            let key = name.as_bytes();
             let line = value_line(rows.text, rows.header, index, key);
             tell(
                 rows.file,
