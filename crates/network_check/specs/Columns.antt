@@ -2,7 +2,7 @@
 use Rattle.std.specs.Prelude.{ℕ, ◌+◌, Bool, true, false, not, List, [], ◌∷◌, ◌++◌, codes, decimal, find, Option, Some, None, if◌then◌else◌}
 use Rattle.std.specs.Str.{bytes_eq}
 use Rattle.dom_base.specs.Steps.{◌>>=◌}
-use Rattle.toml.specs.Data.{Data, Items, no_items, item, Members, array, table, as_str, get, get_member}
+use Rattle.toml.specs.Data.{Data, Items, no_items, item, Members, array, as_str, as_table, get, get_member}
 use Rattle.plant_text.specs.SettingsText.{names}
 use Rattle.network_check.specs.declared.kinds.Kind.{Kind}
 use Rattle.network_check.specs.declared.rows.Field.{Field}
@@ -82,9 +82,12 @@ abbrev pub row_label : List ℕ → ℕ → Option (List ℕ) → List ℕ
 row_label name i None = joined (name ∷ codes " " ∷ decimal i ∷ [])
 row_label name i (Some own) = joined (name ∷ codes " " ∷ decimal i ∷ codes " " ∷ shown own ∷ [])
 
+abbrev pub labelled_text : Sheet → List Column → ℕ → List ℕ → Option Members → List ℕ
+labelled_text s cs i label (Some ms) = row_text s i label cs ms
+labelled_text s cs i label None = told s.file (line_of s.text s.header i) (joined (label ∷ codes ": is no table" ∷ []))
+
 abbrev pub member_text : Sheet → List Column → ℕ → Data → List ℕ
-member_text s cs i (table ms) = row_text s i (row_label s.name i (name_in (table ms))) cs ms
-member_text s cs i d = told s.file (line_of s.text s.header i) (joined (row_label s.name i (name_in d) ∷ codes ": is no table" ∷ []))
+member_text s cs i d = labelled_text s cs i (row_label s.name i (name_in d)) (as_table d)
 
 abbrev pub items_text : Sheet → List Column → ℕ → Items → List ℕ
 items_text s cs i no_items = []

@@ -6,7 +6,7 @@ ghost use Rattle.std.specs.Str.Lines.{lines as lines_of};
 ghost use Rattle.toml.specs.Data.{get_member};
 ghost use Rattle.toml.specs.View.{items_view, table_view, view};
 ghost use Rattle.network_check.specs.Kinds.{allowed};
-ghost use Rattle.network_check.specs.Columns.{column, columns_text, field_text, is_column, items_text, kind_text, member_text, name_in, row_label, row_text, rows_text, sheet_of, unknown_in, unknown_text};
+ghost use Rattle.network_check.specs.Columns.{column, columns_text, field_text, is_column, items_text, kind_text, labelled_text, member_text, name_in, row_label, row_text, rows_text, sheet_of, unknown_in, unknown_text};
 
 use crate::kinds::{Kind, fits};
 use crate::places::{row_line, top_line, value_line};
@@ -270,7 +270,29 @@ fn label_of<'x>(
     Ok(label)
 }
 
-// The keys of a row.
+// The keys of a row that is called so.
+fn tell_labelled(
+    rows: &Rows<'_>,
+    index: usize,
+    label: &[u8],
+    table: Option<&Table>,
+    fields: &[Field],
+    into: &mut Vec<u8>,
+) -> Result<(), NoMemory>
+    requires short { length (lines_of (sheet_of rows.now).text) < 2 ^ 32 }
+    ensures { OnOk result (into.new.items ≡ into.old.items ++ labelled_text (sheet_of rows.now) (map column fields.now) index label.now (option_map (λ t. table_view t.now) table.entry)) }
+{
+    match table {
+        Some(table) => tell_table(rows, index, label, table, fields, into),
+        None => tell(
+            rows.file,
+            row_line(rows.text, rows.header, index),
+            &[Piece::Text(label), Piece::Text(b": is no table")],
+            into,
+        ),
+    }
+}
+
 fn tell_row(
     alloc: Global,
     rows: &Rows<'_>,
@@ -283,15 +305,7 @@ fn tell_row(
     ensures { OnOk result (into.new.items ≡ into.old.items ++ member_text (sheet_of rows.now) (map column fields.now) index (view value.now)) }
 {
     let label = label_of(alloc, rows.name, index, value)?;
-    match value.as_table() {
-        Some(table) => tell_table(rows, index, &label, table, fields, into),
-        None => tell(
-            rows.file,
-            row_line(rows.text, rows.header, index),
-            &[Piece::Text(&label), Piece::Text(b": is no table")],
-            into,
-        ),
-    }
+    tell_labelled(rows, index, &label, value.as_table(), fields, into)
 }
 
 fn tell_items(
