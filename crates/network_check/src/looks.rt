@@ -1,6 +1,6 @@
 //! What the files of a network were found to be.
 ghost use Rattle.std.specs.Prelude.{◌≡◌, ◌≤◌, IfOk, OnOk, length};
-ghost use Rattle.te_deltas.specs.ChangeText.{change_file_most};
+ghost use Rattle.network_files.specs.Topologies.{topology_max};
 ghost use Rattle.network_check.specs.Looks.{AreSeen, IsChartLook, IsChartText, IsSettings, IsSettingsText, SeesRow};
 
 use dom_base::{As, Bytes, List, NoMemory, Text};
@@ -78,7 +78,7 @@ pub(crate) fn look_at_settings<S: Store>(
 // ---- topologies
 
 fn chart_in(alloc: Global, at: As, text: Bytes) -> Result<Look, NoMemory>
-    requires short { length text ≤ change_file_most }
+    requires short { length text ≤ topology_max }
     ensures { IfOk result (IsChartText at text) }
 {
     match topology_of(alloc, at, text.as_slice()) {
