@@ -83,6 +83,7 @@ fn are_at_fault(settings: &Settings) -> bool
 
 /// Reads the settings in a file and the topologies that they name, and tells of each file that is at fault, and of what no rule
 /// sees. A file that is not to be had is at fault.
+#[tactic(auto, using(crate::proofs::Shortness::settings_short, crate::proofs::Shortness::looks_short))]
 pub fn check<S: Store>(alloc: Global, store: &mut S, net: &str) -> Result<Report, NoMemory>
     ensures { IfOk result (IsReport (S.files store.old) net.now (S.faults store.old, S.faults store.new)) }
 {

@@ -58,6 +58,7 @@ fn settings_in(alloc: Global, text: Bytes) -> Result<Settings, NoMemory>
 }
 
 /// Reads the file of the settings.
+#[tactic(auto, using(crate::proofs::Reading::settings_look))]
 pub(crate) fn look_at_settings<S: Store>(
     alloc: Global,
     store: &mut S,
@@ -88,6 +89,7 @@ fn chart_in(alloc: Global, at: As, text: Bytes) -> Result<Look, NoMemory>
     }
 }
 
+#[tactic(auto, using(crate::proofs::Reading::chart_look))]
 fn look_at_chart<S: Store>(
     alloc: Global,
     store: &mut S,

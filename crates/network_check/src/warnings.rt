@@ -170,6 +170,7 @@ fn warn_of_peer(
     )
 }
 
+#[tactic(auto, using(crate::proofs::Peers::peers_next))]
 fn warn_of_peers(
     file: &[u8],
     text: &[u8],

@@ -1,7 +1,0 @@
-use Rattle.std.proofs.Common.{◌≡◌, ◌∙◌, ◌+◌, ◌++◌, List, ℕ, ap, append_assoc, drop, take, sym}
-use Rattle.network_check.specs.Warnings.{peer_warnings, peers_warnings}
-use Rattle.network_check.proofs.Peers.{peers_next}
-use Rattle.network_check.proofs.warnings.warn_of_peers.Goals as goal
-
-pub loop-i-preserved : goal.loop-i-preserved
-loop-i-preserved c = ?
