@@ -23,7 +23,7 @@ use te_links::Links;
 pub(crate) fn arc_of<'a, G: Links<'a>>(
     links: &mut G,
     query: &Query,
-    asked: &Asked,
+    asked: &Asked<'_>,
     labels: &Labels,
     head: u32,
     index: u32,

@@ -33,7 +33,7 @@ fn spread_arc(cap: Cost, arc: Arc, labels: &mut Labels, waiting: &mut Waiting)
 fn spread_link<'a, G: Links<'a>>(
     links: &mut G,
     query: &Query,
-    asked: &Asked,
+    asked: &Asked<'_>,
     head: u32,
     index: u32,
     labels: &mut Labels,
@@ -60,7 +60,7 @@ fn spread_link<'a, G: Links<'a>>(
 pub(crate) fn spread_node<'a, G: Links<'a>>(
     links: &mut G,
     query: &Query,
-    asked: &Asked,
+    asked: &Asked<'_>,
     place: u32,
     labels: &mut Labels,
     waiting: &mut Waiting,
@@ -85,7 +85,7 @@ pub(crate) fn spread_node<'a, G: Links<'a>>(
 pub(crate) fn settle_all<'a, G: Links<'a>>(
     links: &mut G,
     query: &Query,
-    asked: &Asked,
+    asked: &Asked<'_>,
     labels: &mut Labels,
     waiting: &mut Waiting,
     done: &mut [bool],
