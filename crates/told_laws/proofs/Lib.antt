@@ -1,0 +1,5 @@
+pub mod Waiting
+pub mod Idling
+pub mod Telling
+pub mod Saying
+pub mod Playing

@@ -1,0 +1,5 @@
+use Rattle.told_laws.proofs.Playing as playing
+use Rattle.told_laws.proofs.records.parts_are_played.Goals as goal
+
+pub returns : goal.returns
+returns c = playing.parts_are_played
