@@ -31,6 +31,9 @@ number_same i v f is = fun_ext (λ j. go j (i == j) refl)
     go j true at = is ∙ ap f (eqb-true i j at)
     go j false at = refl
 
+some_is : (k l : Connection) → (let p : Option Connection = Some k in let q : Option Connection = Some l in p ≡ q) → k ≡ l
+some_is k l e = cc
+
 -- nothing waits, so nothing is taken away
 drained_same : (a : Access) (x : Connection) → a.connection ≡ Some x → x.out ≡ [] → on_connection events.drained a ≡ a
 drained_same a x at none = go a.connection at
@@ -40,9 +43,6 @@ drained_same a x at none = go a.connection at
     go (Some k) is =
         let out : [] ≡ k.out = sym (ap (λ (y : Connection). y.out) (some_is k x is) ∙ none) in
         ap (λ (q : List Bytes). let r : Access = record { opened = a.opened; connection = Some (record k { out = q }) } in r) out
-      where
-        some_is : (k l : Connection) → (let p : Option Connection = Some k in let q : Option Connection = Some l in p ≡ q) → k ≡ l
-        some_is k l e = cc
 
 pub record Idles (i : ℕ) (s : Plant) (h : Happened) : Type 0 where
   pub state : h.state ≡ s

@@ -31,10 +31,10 @@ happens : (c : Codec) (n : NetworkParts) (s : Plant) (e : Event) (h : Happened) 
 happens c n s e h (inl is) yes = is
 happens c n s e h (inr none) yes = let no : false ≡ true = ap (λ (k : Happened). is_accepted k.answer) (sym none.1) ∙ yes in cc
 
-happened : Entry → Plant → Happened
+abbrev happened : Entry → Plant → Happened
 happened e s = record { answer = e.answer; state = s; deeds = e.deeds }
 
-entry : Event → Happened → Entry
+abbrev entry : Event → Happened → Entry
 entry v h = record { event = v; answer = h.answer; deeds = h.deeds }
 
 pub runs_are_one : RunsAreOne
@@ -46,7 +46,7 @@ runs_are_one c n network (e ∷ es) (f ∷ fs) s t run other yes also same =
     let below : AreOne es fs run.0 other.0 = runs_are_one c n network es fs run.0 other.0 run.1 other.1 yes.1 also.1 (rest_same f.event e.event (events_in fs) (events_in es) same) in
     let there : Happens c n other.0 f.event (happened f t) = happens c n other.0 f.event (happened f t) other.3 also.0 in
     let here : Happens c n run.0 e.event (happened f t) =
-        subst (λ (v : Event). Happens c n run.0 v (happened f t)) event (subst (λ (u : Plant). Happens c n u f.event (happened f t)) below.state there) in
+    subst (λ (v : Event). Happens c n run.0 v (happened f t)) event (subst (λ (u : Plant). Happens c n u f.event (happened f t)) below.state there) in
     let one : happened f t ≡ happened e s = steps_are_one c n network es run.0 run.1 e.event (happened f t) (happened e s) here (happens c n run.0 e.event (happened e s) run.3 yes.0) in
     record {
       entries =
@@ -77,12 +77,12 @@ records_are_played n network es fs s t run other yes same =
 
 -- a moment of which just these events are told
 record Moment (n : NetworkParts) (es : List Entry) (part : List Event) : Type 0 where
-  later : List Entry
-  moment : List Entry
-  is : es ≡ later ++ moment
-  state : Plant
-  run : Run wire n moment state
-  tells : part ≡ events_in (told moment)
+  pub later : List Entry
+  pub moment : List Entry
+  pub is : es ≡ later ++ moment
+  pub state : Plant
+  pub run : Run wire n moment state
+  pub tells : part ≡ events_in (told moment)
 
 behind : (n : NetworkParts) (e : Entry) (es : List Entry) (part : List Event) → Moment n es part → Moment n (e ∷ es) part
 behind n e es part m = record { later = e ∷ m.later; moment = m.moment; is = ap (λ (l : List Entry). e ∷ l) m.is; state = m.state; run = m.run; tells = m.tells }

@@ -86,12 +86,12 @@ module _ (c : Codec) (n : NetworkParts) (writes : WritesOctets c) where
   drains_nothing : (before : Plant) (e : Entry) (s : Plant) → AllWait c n writes before → Steps c n before e.event (happened e s) → is_accepted e.answer ≡ true → IsIdleDrain e.event e.answer → DrainsNothing before e s
   drains_nothing before e s all step yes drain =
       let idles : Idles drain.peer before (happened e s) =
-          step_idles c n writes drain.peer drain.holder before (happened e s) all (subst (λ (v : Event). Steps c n before v (happened e s)) drain.event step) yes drain.handed in
+      step_idles c n writes drain.peer drain.holder before (happened e s) all (subst (λ (v : Event). Steps c n before v (happened e s)) drain.event step) yes drain.handed in
       record { answer = yes; drain = drain; state = idles.state; deeds = idles.deeds }
 
   pub left_out : (e : Entry) (older : List Entry) (s : Plant) (run : Run c n (e ∷ older) s) → is_told e.event e.answer ≡ false → LeftOut run.0 e s
   left_out e older s run is = elim (untold (is_accepted e.answer) (is_idle e.event e.answer) is) [
-    | inl no ↦ inl (refuses run.0 e s run.3 no)
+    | inl refused ↦ inl (refuses run.0 e s run.3 refused)
     | inr idle ↦ inr (drains_nothing run.0 e s (all_wait c n writes older run.0 run.1) run.3 idle.0 (idle_drain e.event e.answer idle.1))
   ]
 
