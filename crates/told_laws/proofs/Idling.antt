@@ -7,7 +7,7 @@ use Rattle.pcep_framing.specs.Frames.{joined}
 use Rattle.plant_laws.specs.plant_model.Types.{NetworkParts}
 use Rattle.plant_laws.specs.plant_model.declared.event.Event.TheVariants as event
 use Rattle.plant_laws.specs.plant_model.declared.outcome.Outcome.TheVariants.{Drained}
-use Rattle.plant_laws.specs.plant_model.declared.outcome.Refused.TheVariants.{NoMemory, NoSuchPeer, NotHolder}
+use Rattle.plant_laws.specs.plant_model.declared.outcome.Refused.TheVariants.{NotHolder}
 use Rattle.plant_laws.specs.plant_model.Names.{set_number}
 use Rattle.plant_laws.specs.plant_model.Wire.{Bytes, Codec}
 use Rattle.plant_laws.specs.plant_model.Blind.{is_accepted}
@@ -69,14 +69,14 @@ module _ (c : Codec) (n : NetworkParts) (writes : WritesOctets c) where
   drain_idles i holder s all = go (s.accesses i).connection refl
     where
       held : (x : Connection) → (s.accesses i).connection ≡ Some x → (b : Bool) → MayIdle i s (cond b (handed i s x) (events.refused Pin Segment c n open_of (NotHolder x.holder) s))
-      held x at true = λ yes none. handed_idles i s x all at none
-      held x at false = λ yes none. differ yes
+      held x at true = λ fine none. handed_idles i s x all at none
+      held x at false = λ fine none. differ fine
 
       go : (o : Option Connection) → (s.accesses i).connection ≡ o → MayIdle i s (events.drain_open Pin Segment c n open_of i holder s o)
-      go None at = λ yes none. differ yes
+      go None at = λ fine none. differ fine
       go (Some x) at = held x at (x.holder == holder)
 
   -- one that was accepted, and handed out nothing
   pub step_idles : (i holder : ℕ) (s : Plant) (h : Happened) → AllWait c n writes s → Steps c n s (event.Drain i holder) h → MayIdle i s h
   step_idles i holder s h all (inl is) = subst (MayIdle i s) (sym is) (drain_idles i holder s all)
-  step_idles i holder s h all (inr none) = subst (MayIdle i s) (sym none.1) (λ yes nothing. differ yes)
+  step_idles i holder s h all (inr none) = subst (MayIdle i s) (sym none.1) (λ fine nothing. differ fine)

@@ -1,17 +1,17 @@
 -- What is told of a run says all that the run says.
-use Rattle.std.proofs.Common.{◌≡◌, ◌∙◌, ◌⊎◌, ℕ, Bool, true, false, cond, ◌==◌, List, [], ◌∷◌, ◌++◌, append_assoc, append-nil, Option, Some, None, sym, ap, subst, inl, inr, refl}
+use Rattle.std.proofs.Common.{◌≡◌, ◌∙◌, ℕ, Bool, true, false, cond, ◌==◌, List, [], ◌∷◌, ◌++◌, append_assoc, append-nil, Option, Some, None, sym, ap, inl, inr, refl}
 use Rattle.plant_laws.specs.plant_model.Types.{Message, NetworkParts, Sent}
 use Rattle.plant_laws.specs.plant_model.declared.event.Event.{Event}
 use Rattle.plant_laws.specs.plant_model.declared.event.Event.TheVariants as event
 use Rattle.plant_laws.specs.plant_model.Wire.{Bytes, Codec}
 use Rattle.plant_laws.specs.plant_model.Blind.{is_accepted}
-use Rattle.plant_laws.specs.plant_model.State.{Clears, Deed, Downs, Expires, Hands, Loads, Pops, Says, Solves, Takes, Ups, said, sent_in}
+use Rattle.plant_laws.specs.plant_model.State.{Hands, said, sent_in}
 use Rattle.plant_laws.specs.plant_model.Plant.{Entry, Plant, PlantDeed, Run, deeds_of}
 use Rattle.plant_laws.specs.plant_model.RealWire.{wire}
-use Rattle.run_laws.specs.Outlets.{ConnectionChange, Drains, Outlet, Stays, handed_in, messages_for, outlet, turn_for, turned}
+use Rattle.run_laws.specs.Outlets.{Drains, Outlet, Stays, handed_in, messages_for, outlet, turn_for, turned}
 use Rattle.told_laws.specs.Saying.{SayTheSame, ToldSaysAll, handed_by, handed_to}
 use Rattle.told_laws.specs.Telling.{is_told, told}
-use Rattle.told_laws.proofs.Telling.{DrainsNothing, LeftOut, Refuses, left_out, wire_writes}
+use Rattle.told_laws.proofs.Telling.{LeftOut, left_out, wire_writes}
 use Rattle.told_laws.proofs.Waiting.{WritesOctets}
 
 module _ (c : Codec) (n : NetworkParts) (writes : WritesOctets c) where

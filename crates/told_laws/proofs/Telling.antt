@@ -1,7 +1,7 @@
 -- What is not told changes nothing and says nothing, so what is told is a run.
 use Rattle.std.proofs.Common.{◌≡◌, ◌⊎◌, ℕ, Bool, true, false, cond, not, ◌&&◌, List, [], ◌∷◌, sym, subst, inl, inr, refl}
 use Rattle.disclosure.specs.Shown.{open_of}
-use Rattle.plant_laws.specs.plant_model.Types.{Message, NetworkParts}
+use Rattle.plant_laws.specs.plant_model.Types.{NetworkParts}
 use Rattle.plant_laws.specs.plant_model.declared.event.Event.{Event}
 use Rattle.plant_laws.specs.plant_model.declared.event.Event.TheVariants as event
 use Rattle.plant_laws.specs.plant_model.Names.{is_empty}
@@ -84,10 +84,10 @@ module _ (c : Codec) (n : NetworkParts) (writes : WritesOctets c) where
       record { answer = is; state = same.state; deeds = same.deeds }
 
   drains_nothing : (before : Plant) (e : Entry) (s : Plant) → AllWait c n writes before → Steps c n before e.event (happened e s) → is_accepted e.answer ≡ true → IsIdleDrain e.event e.answer → DrainsNothing before e s
-  drains_nothing before e s all step yes drain =
+  drains_nothing before e s all step fine drain =
       let idles : Idles drain.peer before (happened e s) =
-      step_idles c n writes drain.peer drain.holder before (happened e s) all (subst (λ (v : Event). Steps c n before v (happened e s)) drain.event step) yes drain.handed in
-      record { answer = yes; drain = drain; state = idles.state; deeds = idles.deeds }
+      step_idles c n writes drain.peer drain.holder before (happened e s) all (subst (λ (v : Event). Steps c n before v (happened e s)) drain.event step) fine drain.handed in
+      record { answer = fine; drain = drain; state = idles.state; deeds = idles.deeds }
 
   pub left_out : (e : Entry) (older : List Entry) (s : Plant) (run : Run c n (e ∷ older) s) → is_told e.event e.answer ≡ false → LeftOut run.0 e s
   left_out e older s run is = elim (untold (is_accepted e.answer) (is_idle e.event e.answer) is) [

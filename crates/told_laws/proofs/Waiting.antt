@@ -1,5 +1,5 @@
 -- In every run no message that waits for an outside peer is without octets.
-use Rattle.std.proofs.Common.{◌≡◌, ℕ, suc, ◌+◌, ◌%◌, Bool, true, false, cond, ◌==◌, List, [], ◌∷◌, ◌++◌, Option, Some, None, is_some, sym, ap, subst, inl, inr, refl}
+use Rattle.std.proofs.Common.{◌≡◌, ℕ, ◌+◌, ◌%◌, Bool, true, false, cond, ◌==◌, List, [], ◌∷◌, ◌++◌, Option, Some, None, is_some, sym, subst, inl, inr, refl}
 use Rattle.disclosure.specs.Shown.{open_of}
 use Rattle.te_links.specs.Rows.{Rows}
 use Rattle.pcep_framing.specs.Frames.{joined}
@@ -260,5 +260,5 @@ module _ (c : Codec) (n : NetworkParts) (writes : WritesOctets c) where
   none_open (Some k) one = absurd one
 
   pub all_wait : (es : List Entry) (s : Plant) → Run c n es s → AllWait s
-  all_wait [] s is i = none_open (s.accesses i).connection (outlets_stand c n [] s is i)
+  all_wait [] s is = λ (i : ℕ). none_open (s.accesses i).connection (outlets_stand c n [] s is i)
   all_wait (e ∷ older) s run = steps_keep run.0 e.event (record { answer = e.answer; state = s; deeds = e.deeds }) run.3 (all_wait older run.0 run.1)
