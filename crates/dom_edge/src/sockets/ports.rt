@@ -12,7 +12,7 @@ use super::addresses::{addr_of_ip, ip_of_addr};
 use super::asked::{Asked, bind_at};
 use super::errors::no_memory;
 use super::listener::PortListener;
-use super::shared::SharedPort;
+use super::shared::{Heeded, SharedPort};
 use crate::bell::Place;
 use crate::heeding::is_same;
 use crate::ports::{Opened, Ports};
@@ -36,8 +36,8 @@ const NO_SUCH_FAMILY: i32 = 97;
 /// the system is not told to keep them apart, and on a machine without IPv6 for each of IPv4. A port
 /// that others use, or that may not be listened at, is a failure.
 ///
-/// Several may listen at one port, for whoever comes or each for another address: the system is asked for that port once. A port
-/// that is dialled asks the system for nothing yet.
+/// Several may listen at one port, all of them for whoever comes or each for another address: the system is asked for that port
+/// once. At a port of the other kind a call fails. A port that is dialled asks the system for nothing yet.
 #[derive(Drop)]
 pub struct SocketPorts<R: Net + Clock + Copy + Drop> {
     rt: R,
@@ -115,12 +115,19 @@ impl<R: Net + Clock + Copy + Drop> SocketPorts<R> {
     }
 
     // The port that is shared already.
-    fn find(&self, port: u16) -> io::Result<Option<Arc<SharedPort<R::Listener>, Global>>>
+    fn find(
+        &self,
+        port: u16,
+        heeded: Heeded,
+    ) -> io::Result<Option<Arc<SharedPort<R::Listener>, Global>>>
         ensures { IfOk result (λ found. IfSome found (λ p. IsBoundAt self.now.address port (arc_value p).at)) }
     {
         for shared in &self.shared {
             let at = shared.at;
             if at.port() == port && is_bound_by(self.address, at.ip()) {
+                if shared.heeded != heeded {
+                    return Err(io::Error::from(ErrorKind::AddrInUse));
+                }
                 let Ok(found) = Arc::try_clone(shared) else {
                     return Err(no_memory());
                 };
@@ -131,23 +138,31 @@ impl<R: Net + Clock + Copy + Drop> SocketPorts<R> {
     }
 
     // A port of the system that nobody listens at yet.
-    fn bind_new(&self, port: u16) -> io::Result<Arc<SharedPort<R::Listener>, Global>>
+    fn bind_new(
+        &self,
+        port: u16,
+        heeded: Heeded,
+    ) -> io::Result<Arc<SharedPort<R::Listener>, Global>>
         ensures { IfOk result (λ p. IsBoundAt self.now.address port (arc_value p).at) }
     {
         let Asked { socket, at } = self.bind(port)?;
         socket.set_nonblocking(true)?;
-        match Arc::new(self.alloc, SharedPort::new(self.alloc, socket, at)) {
+        match Arc::new(self.alloc, SharedPort::new(self.alloc, socket, at, heeded)) {
             Ok(shared) => Ok(shared),
             Err(_) => Err(no_memory()),
         }
     }
 
     // The same, which others may share from now on.
-    fn bind_shared(&mut self, port: u16) -> io::Result<Arc<SharedPort<R::Listener>, Global>>
+    fn bind_shared(
+        &mut self,
+        port: u16,
+        heeded: Heeded,
+    ) -> io::Result<Arc<SharedPort<R::Listener>, Global>>
         ensures bound { IfOk result (λ p. IsBoundAt self.old.address port (arc_value p).at) }
         ensures same { self.new ≡ self.old }
     {
-        let shared = self.bind_new(port)?;
+        let shared = self.bind_new(port, heeded)?;
         let Ok(kept) = Arc::try_clone(&shared) else {
             return Err(no_memory());
         };
@@ -158,13 +173,17 @@ impl<R: Net + Clock + Copy + Drop> SocketPorts<R> {
     }
 
     // The port, which others may share from now on.
-    fn share(&mut self, port: u16) -> io::Result<Arc<SharedPort<R::Listener>, Global>>
+    fn share(
+        &mut self,
+        port: u16,
+        heeded: Heeded,
+    ) -> io::Result<Arc<SharedPort<R::Listener>, Global>>
         ensures bound { IfOk result (λ p. IsBoundAt self.old.address port (arc_value p).at) }
         ensures same { self.new ≡ self.old }
     {
-        match self.find(port)? {
+        match self.find(port, heeded)? {
             Some(shared) => Ok(shared),
-            None => self.bind_shared(port),
+            None => self.bind_shared(port, heeded),
         }
     }
 
@@ -174,7 +193,7 @@ impl<R: Net + Clock + Copy + Drop> SocketPorts<R> {
         ensures same { self.new ≡ self.old }
     {
         let place = Place::new(&self.rt, self.alloc)?;
-        let shared = self.share(port)?;
+        let shared = self.share(port, Heeded::Anyone)?;
         place.add_port(shared.listener.as_raw_fd())?;
         Ok(PortListener::hearing(self.rt, shared, place, None))
     }
@@ -185,7 +204,7 @@ impl<R: Net + Clock + Copy + Drop> SocketPorts<R> {
         ensures same { self.new ≡ self.old }
     {
         let place = Place::new(&self.rt, self.alloc)?;
-        let shared = self.share(port)?;
+        let shared = self.share(port, Heeded::OneAddress)?;
         place.add_port(shared.listener.as_raw_fd())?;
         let Ok(bell) = place.box_bell() else {
             return Err(no_memory());

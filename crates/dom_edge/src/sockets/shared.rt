@@ -35,22 +35,31 @@ struct Room<S: Drop> {
     held: Option<Held<S>>,
 }
 
-// A listener of the system, the address that it was asked for, and the boxes of the peers that share it.
+// For whom the listeners of a port are: each for whoever comes, or each for the connections of one address.
+#[derive(Clone, Copy, PartialEq, Eq, Drop)]
+pub(super) enum Heeded {
+    Anyone,
+    OneAddress,
+}
+
+// A listener of the system, the address that it was asked for, for whom it is, and the boxes of the peers that share it.
 #[derive(Drop)]
 pub(super) struct SharedPort<L: OpenListener + Drop> {
     pub(super) listener: L,
     pub(super) at: SocketAddr,
+    pub(super) heeded: Heeded,
     rooms: Mutex<Vec<Room<L::Stream>>>,
 }
 
 impl<L: OpenListener + Drop> SharedPort<L> {
     // Nobody shares it yet.
-    pub(super) fn new(alloc: Global, listener: L, at: SocketAddr) -> Self
+    pub(super) fn new(alloc: Global, listener: L, at: SocketAddr, heeded: Heeded) -> Self
         ensures { result.at ≡ at }
     {
         SharedPort {
             listener,
             at,
+            heeded,
             rooms: Mutex::new(Vec::new(alloc)),
         }
     }
