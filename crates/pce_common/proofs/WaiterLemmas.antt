@@ -89,14 +89,14 @@ said_again front n (Some (One m)) said =
     last m (k ∷ numbers) all = last m numbers all.1
 said_again front n (Some Several) said = said
 
-said_by : (numbers numbers' : List ℕ) (o o' : Option Waiter) → numbers ≡ numbers' → o ≡ o' → IsSaidOf numbers' o' → IsSaidOf numbers o
+pub said_by : (numbers numbers' : List ℕ) (o o' : Option Waiter) → numbers ≡ numbers' → o ≡ o' → IsSaidOf numbers' o' → IsSaidOf numbers o
 said_by numbers numbers' o o' same said is =
     subst (λ (ns : List ℕ). IsSaidOf ns o) (sym same) (subst (λ (x : Option Waiter). IsSaidOf numbers' x) (sym said) is)
 
 pub nobody_said : {T : Type 0} (waits : ℕ → Numbered T → Bool) (rows : List (Numbered T)) (waiters : Waiters) → ((id : ℕ) → waiter_at waiters id ≡ None) → AreSaidOf (numbers_waiting waits (take 0 rows)) waiters
 nobody_said waits rows waiters none id = said_by [] [] (waiter_at waiters id) None refl (none id) refl
 
-numbers_next : {T : Type 0} (waits : ℕ → Numbered T → Bool) (rows : List (Numbered T)) (k : ℕ) (h : Numbered T) (id : ℕ) → slice_get rows k ≡ Some h →
+pub numbers_next : {T : Type 0} (waits : ℕ → Numbered T → Bool) (rows : List (Numbered T)) (k : ℕ) (h : Numbered T) (id : ℕ) → slice_get rows k ≡ Some h →
     numbers_waiting waits (take (k + 1) rows) id ≡ numbers_waiting waits (take k rows) id ++ cond (waits id h) (h.0 ∷ []) []
 numbers_next {T} waits rows k h id at =
     ap (λ (j : ℕ). numbers_waiting waits (take j rows) id) (let e : k + 1 ≡ suc k = omega arith in e)
@@ -143,17 +143,16 @@ not_ended ended rows = filter (λ h. not (has_number h.0 ended)) rows
 -- tests in either order
 tests_either_way : {X : Type 0} (p q : X → Bool) (xs : List X) → filter p (filter q xs) ≡ filter q (filter p xs)
 tests_either_way p q [] = refl
-tests_either_way {X} p q (x ∷ xs) =
-    elim (cases_Bool (p x)) [
-      | inl yes' ↦ elim (cases_Bool (q x)) [
-        | inl also ↦ rw (yes', also, yes', also) (ap (λ (ys : List X). x ∷ ys) (tests_either_way p q xs))
-        | inr but ↦ rw (yes', but, but) (tests_either_way p q xs)
-      ]
-      | inr no' ↦ elim (cases_Bool (q x)) [
-        | inl also ↦ rw (also, no', no') (tests_either_way p q xs)
-        | inr but ↦ rw (but, no') (tests_either_way p q xs)
-      ]
-    ]
+tests_either_way {X} p q (x ∷ xs) = go (p x) (q x) refl refl (tests_either_way p q xs)
+  where
+    first : (t : X → Bool) (ys : List X) (b : Bool) → t x ≡ b → filter t (x ∷ ys) ≡ cond b (x ∷ filter t ys) (filter t ys)
+    first t ys b is = ap (λ (d : Bool). cond d (x ∷ filter t ys) (filter t ys)) is
+
+    go : (b d : Bool) → p x ≡ b → q x ≡ d → filter p (filter q xs) ≡ filter q (filter p xs) → filter p (cond d (x ∷ filter q xs) (filter q xs)) ≡ filter q (cond b (x ∷ filter p xs) (filter p xs))
+    go true true by_p by_q more = first p (filter q xs) true by_p ∙ ap (λ (ys : List X). x ∷ ys) more ∙ sym (first q (filter p xs) true by_q)
+    go true false by_p by_q more = more ∙ sym (first q (filter p xs) false by_q)
+    go false true by_p by_q more = first p (filter q xs) false by_p ∙ more
+    go false false by_p by_q more = more
 
 pub filtered_in : {X : Type 0} (p : X → Bool) (xs : List X) (x : X) → Contains (filter p xs) x → Contains xs x
 filtered_in p [] x has = has

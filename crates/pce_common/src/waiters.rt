@@ -24,7 +24,7 @@ pub struct Waiters {
 
 // With one more, of a number.
 fn one_more(number: u64, before: Option<&Waiter>) -> Waiter
-    ensures { result ≡ one_more number (option_copied before) }
+    ensures { result ≡ one_more number (option_copied before.entry) }
 {
     match before {
         None => Waiter::One(number),
