@@ -1,4 +1,4 @@
-use Rattle.std.proofs.Common.{◌≡◌, ◌<◌, ◌≤◌, ◌+◌, ℕ, List, length, take, get_or, arith, ap}
+use Rattle.std.proofs.Common.{◌≡◌, ◌≤◌, ◌+◌, ℕ, true, false, List, length, take, get_or, arith, refl, ap}
 use Rattle.std.proofs.lemmas.List.Sums.{sum_by_more, sum_by_more_le}
 use Rattle.std.specs.List.{sum_by}
 use Rattle.pcep_messages.specs.declared.message.ErrorReport.{ErrorReport}
@@ -11,7 +11,7 @@ returns-then-named-left c =
     let here : length c.report-item.result.ids ≡ named (get_or c.args.reports.now c.loop-report.report-index c.report-item.result) = ap named c.report-item.is in
     let most : sum_by named (take c.loop-report.report-index c.args.reports.now) + named (get_or c.args.reports.now c.loop-report.report-index c.report-item.result) ≤ sum_by named c.args.reports.now =
     sum_by_more_le named c.args.reports.now c.loop-report.report-index c.report-item.result (omega arith) in
-    (λ yes'. omega (arith, here, most, c.loop-report.invariant, c.if-named-left.true, c.len-named.ensures), λ more. tt)
+    (λ yes'. omega (arith, here, most, c.loop-report.invariant, c.if-named-left.true, c.len-named.ensures), λ more. refl)
 
 pub loop-report-preserved : goal.loop-report-preserved
 loop-report-preserved c =
@@ -25,4 +25,4 @@ pub returns : goal.returns
 returns c =
     let named : ErrorReport → ℕ = λ x. length x.ids in
     let all : sum_by named (take c.loop-report.report-index c.args.reports.now) ≡ sum_by named c.args.reports.now = ap (λ (xs : List ErrorReport). sum_by named xs) (all_taken c.args.reports.now c.loop-report.report-index (omega arith)) in
-    (λ no'. absurd no', λ many. absurd (omega (arith, all, many, c.loop-report.invariant)))
+    (λ no'. absurd (let no : false ≡ true = no' in cc), λ many. absurd (omega (arith, all, many, c.loop-report.invariant)))
