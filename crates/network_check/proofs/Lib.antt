@@ -1,0 +1,4 @@
+pub mod Looking
+pub mod Shortness
+pub mod Peers
+pub mod Reading

@@ -1,0 +1,99 @@
+//! What is told of a network's files.
+ghost use Rattle.std.specs.Prelude.{◌≡◌, ◌≤◌, ◌++◌, IfOk, OnOk};
+ghost use Rattle.network_check.specs.Findings.{AreFound, IsReport, IsShortText, is_faulty as are_faulty, rows_of, settings_text};
+ghost use Rattle.network_check.specs.Looks.{AreSeen};
+
+use crate::compare::{has_fault, tell_of_topologies};
+use crate::looks::{Seen, Settings, look_at_rows, look_at_settings};
+use crate::settings::tell_faulty;
+use crate::told::{Piece, tell};
+use crate::warnings::warn_of_settings;
+use dom_base::{Bytes, List, NoMemory};
+use dom_edge::Store;
+use std::alloc::Global;
+
+/// What is told, and whether a file is at fault.
+#[derive(Drop)]
+pub struct Report {
+    pub text: Bytes,
+    pub is_faulty: bool,
+}
+
+/// What the files of a network were found to be: its settings, and the topologies that these name.
+#[derive(Drop)]
+pub struct Findings {
+    pub settings: Settings,
+    pub seen: List<Seen>,
+}
+
+// Reads the topologies that settings name.
+fn look_behind<S: Store>(
+    alloc: Global,
+    store: &mut S,
+    settings: &Settings,
+) -> Result<List<Seen>, NoMemory>
+    ensures seen { IfOk result (AreSeen (S.files store.old) (rows_of settings.now) (S.faults store.old, S.faults store.new)) }
+    ensures files { S.files store.new ≡ S.files store.old }
+    ensures later { S.faults store.old ≤ S.faults store.new }
+{
+    match settings {
+        Settings::Sound(_, network) => {
+            let parts = network.parts();
+            look_at_rows(alloc, store, parts.elements.as_slice())
+        }
+        Settings::Faulty(_, _) | Settings::Unread | Settings::TooLong => Ok(List::new(alloc)),
+    }
+}
+
+fn look<S: Store>(alloc: Global, store: &mut S, net: &str) -> Result<Findings, NoMemory>
+    ensures found { IfOk result (AreFound (S.files store.old) net.now (S.faults store.old, S.faults store.new)) }
+{
+    let settings = look_at_settings(alloc, store, net)?;
+    let seen = look_behind(alloc, store, &settings)?;
+    Ok(Findings { settings, seen })
+}
+
+fn tell_settings(
+    alloc: Global,
+    net: &[u8],
+    settings: &Settings,
+    into: &mut Vec<u8>,
+) -> Result<(), NoMemory>
+    requires short { IsShortText settings.now }
+    ensures { OnOk result (into.new.items ≡ into.old.items ++ settings_text net.now settings.now) }
+{
+    match settings {
+        Settings::Sound(text, network) => {
+            warn_of_settings(net, text.as_slice(), network.parts(), into)
+        }
+        Settings::Faulty(text, fault) => tell_faulty(alloc, net, text.as_slice(), fault, into),
+        Settings::Unread => tell(net, 0, &[Piece::Text(b"read fault")], into),
+        Settings::TooLong => tell(net, 0, &[Piece::Text(b"too large")], into),
+    }
+}
+
+fn are_at_fault(settings: &Settings) -> bool
+    ensures { result ≡ are_faulty settings.now }
+{
+    match settings {
+        Settings::Sound(_, _) => false,
+        Settings::Faulty(_, _) | Settings::Unread | Settings::TooLong => true,
+    }
+}
+
+/// Reads the settings in a file and the topologies that they name, and tells of each file that is at fault, and of what no rule
+/// sees. A file that is not to be had is at fault.
+#[tactic(auto, using(crate::proofs::Shortness::settings_short, crate::proofs::Shortness::looks_short))]
+pub fn check<S: Store>(alloc: Global, store: &mut S, net: &str) -> Result<Report, NoMemory>
+    ensures { IfOk result (IsReport (S.files store.old) net.now (S.faults store.old, S.faults store.new)) }
+{
+    let findings = look(alloc, store, net)?;
+    let mut text = Vec::new(alloc);
+    tell_settings(alloc, net.as_bytes(), &findings.settings, &mut text)?;
+    tell_of_topologies(alloc, findings.seen.as_slice(), &mut text)?;
+    let is_faulty = are_at_fault(&findings.settings) || has_fault(findings.seen.as_slice());
+    Ok(Report {
+        text: Bytes::from_vec(text),
+        is_faulty,
+    })
+}
