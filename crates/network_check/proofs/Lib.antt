@@ -1,4 +1,6 @@
+pub mod Kinding
 pub mod Looking
-pub mod Shortness
 pub mod Peers
+pub mod Placing
 pub mod Reading
+pub mod Shortness

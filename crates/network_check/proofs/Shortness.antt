@@ -4,6 +4,7 @@ use Rattle.std.specs.List.{All}
 use Rattle.std.specs.Str.Lines.{lines}
 use Rattle.std.proofs.lemmas.List.Elements.{All-weaker}
 use Rattle.std.proofs.lemmas.List.Sums.{count_by-le-length}
+use Rattle.dom_base.specs.declared.names.As.{As}
 use Rattle.dom_edge.specs.Stores.{Files}
 use Rattle.network_files.proofs.LineCount.{few_lines}
 use Rattle.network_check.specs.declared.looks.Look.{Look}
@@ -11,7 +12,6 @@ use Rattle.network_check.specs.declared.looks.Look.TheVariants as look
 use Rattle.network_check.specs.declared.looks.Seen.{Seen}
 use Rattle.network_check.specs.declared.looks.Settings.{Settings}
 use Rattle.network_check.specs.declared.looks.Settings.TheVariants as settings
-use Rattle.dom_base.specs.declared.names.As.{As}
 use Rattle.network_check.specs.Looks.{IsChartLook, IsLook, IsSettings}
 use Rattle.network_check.specs.Compare.{IsShort}
 use Rattle.network_check.specs.Findings.{IsShortText}
@@ -25,7 +25,7 @@ settings_short files name counts (settings.Faulty text fault) is = omega (arith,
 settings_short files name counts settings.Unread is = tt
 settings_short files name counts settings.TooLong is = tt
 
-pub look_short : (files : Option Files) (at : As) (name : List ℕ) (counts : ℕ × ℕ) (l : Look) → IsChartLook files at name counts l → IsShort l
+look_short : (files : Option Files) (at : As) (name : List ℕ) (counts : ℕ × ℕ) (l : Look) → IsChartLook files at name counts l → IsShort l
 look_short files at name counts (look.Read c) is = omega (arith, few c.text, is.1)
 look_short files at name counts (look.Refused line fault) is = tt
 look_short files at name counts look.Unread is = tt

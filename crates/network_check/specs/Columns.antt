@@ -4,11 +4,12 @@ use Rattle.std.specs.Str.{bytes_eq}
 use Rattle.dom_base.specs.Steps.{◌>>=◌}
 use Rattle.toml.specs.Data.{Data, Items, no_items, item, Members, array, as_str, as_table, get, get_member}
 use Rattle.plant_text.specs.SettingsText.{names}
+use Rattle.network_check.specs.declared.fields.Field.{Field}
+use Rattle.network_check.specs.declared.fields.Field.TheVariants.{Must, May}
 use Rattle.network_check.specs.declared.kinds.Kind.{Kind}
-use Rattle.network_check.specs.declared.rows.Field.{Field}
 use Rattle.network_check.specs.declared.rows.Rows.{Rows}
 use Rattle.network_check.specs.Kinds.{allowed_parts, is_kind}
-use Rattle.network_check.specs.Places.{line_of, top_line, value_line}
+use Rattle.network_check.specs.Places.{key_line, line_of, top_line}
 use Rattle.network_check.specs.Told.{joined, shown, told}
 
 -- a key that a row may have, and whether it must
@@ -17,10 +18,17 @@ pub record Column : Type 0 where
   pub kind : Kind
   pub needed : Bool
 
-abbrev pub column : Field → Column
-column f = record { key = f.key.now; kind = f.kind; needed = f.needed }
+abbrev pub must : List ℕ → Kind → Column
+must key kind = record { key = key; kind = kind; needed = true }
 
--- the rows of a table: the file and the text that they stand in, the header of each, and what each is called
+abbrev pub may : List ℕ → Kind → Column
+may key kind = record { key = key; kind = kind; needed = false }
+
+abbrev pub column : Field → Column
+column (Must key kind) = must key.now kind
+column (May key kind) = may key.now kind
+
+-- the rows of a table: the file and the text that they stand in, the header of each, none for the keys beside the tables, and what each is called
 pub record Sheet : Type 0 where
   pub file : List ℕ
   pub text : List ℕ
@@ -28,7 +36,7 @@ pub record Sheet : Type 0 where
   pub name : List ℕ
 
 abbrev pub sheet_of : Rows → Sheet
-sheet_of r = record { file = r.file.now; text = r.text.now; header = r.header.now; name = r.name.now }
+sheet_of r = record { file = r.page.file.now; text = r.page.text.now; header = r.header.now; name = r.name.now }
 
 -- ---- the keys of a row
 
@@ -37,7 +45,7 @@ kind_text file line label key what kind = told file line (joined (label ∷ code
 
 -- the value is of the kind, or it is told what it may be
 abbrev pub value_text : Sheet → ℕ → List ℕ → Column → Data → List ℕ
-value_text s i label c d = if is_kind c.kind d then [] else kind_text s.file (value_line s.text s.header i c.key) label c.key (codes " is not ") c.kind
+value_text s i label c d = if is_kind c.kind d then [] else kind_text s.file (key_line s.text s.header i c.key) label c.key (codes " is not ") c.kind
 
 abbrev pub lack_text : Sheet → ℕ → List ℕ → Column → List ℕ
 lack_text s i label c = if c.needed then kind_text s.file (line_of s.text s.header i) label c.key (codes " is missing: ") c.kind else []
@@ -60,7 +68,7 @@ is_column (c ∷ cs) key = if bytes_eq c.key key then true else is_column cs key
 
 abbrev pub strange_text : Sheet → ℕ → List ℕ → Option (List ℕ) → List ℕ
 strange_text s i label None = []
-strange_text s i label (Some key) = told s.file (value_line s.text s.header i key) (joined (label ∷ codes ": " ∷ shown key ∷ codes " is no key there" ∷ []))
+strange_text s i label (Some key) = told s.file (key_line s.text s.header i key) (joined (label ∷ codes ": " ∷ shown key ∷ codes " is no key there" ∷ []))
 
 abbrev pub unknown_in : List Column → Members → Option (List ℕ)
 unknown_in cs ms = find (λ k. not (is_column cs k)) (names ms)

@@ -2,37 +2,38 @@
 use Rattle.std.specs.Prelude.{ℕ, ◌==◌, true, false, List, [], ◌∷◌, ◌++◌, codes, decimal, Option, Some, None, if◌then◌else◌}
 use Rattle.dom_base.specs.Steps.{◌>>=◌}
 use Rattle.toml.specs.Data.{Data, Members, table, at, get_member}
+use Rattle.te_links.specs.declared.limits.TheConstants.{METRIC_MAX}
+use Rattle.plant_text.specs.declared.limits.TheConstants.{KEY_LIFE_MAX, WORKERS_MAX}
 use Rattle.plant_text.specs.declared.fault.NetFault.{NetFault}
 use Rattle.plant_text.specs.declared.fault.NetFault.TheVariants as fault
 use Rattle.network_check.specs.declared.kinds.Kind.{Kind}
 use Rattle.network_check.specs.declared.kinds.Kind.TheVariants.{Rows, Whole, Address, Fourth, Flag, Text, Name, Class, Colour, Numbers}
-use Rattle.network_check.specs.Columns.{Column, Sheet, name_in, row_text, rows_text}
+use Rattle.network_check.specs.Columns.{Column, Sheet, may, must, name_in, row_text, rows_text}
 use Rattle.network_check.specs.Faults.{fault_text}
 use Rattle.network_check.specs.Places.{line_of, top_line}
 use Rattle.network_check.specs.Told.{joined, shown, told}
 
 -- ---- the keys of the tables
 
-abbrev pub must : List ℕ → Kind → Column
-must key kind = record { key = key; kind = kind; needed = true }
-
-abbrev pub may : List ℕ → Kind → Column
-may key kind = record { key = key; kind = kind; needed = false }
-
--- a number of a domain, and one of a port
 abbrev pub domain : Kind
 domain = Whole 1 65535
 
+abbrev pub port : Kind
+port = Whole 1 65535
+
+abbrev pub metric : Kind
+metric = Whole 1 METRIC_MAX
+
 abbrev pub element_columns : List Column
 element_columns =
-    must (codes "as") domain ∷ must (codes "id") Address ∷ may (codes "topology") Text ∷ may (codes "key_life") (Whole 1 3600) ∷ may (codes "parent") Flag ∷ []
+    must (codes "as") domain ∷ must (codes "id") Address ∷ may (codes "topology") Text ∷ may (codes "key_life") (Whole 1 KEY_LIFE_MAX) ∷ may (codes "parent") Flag ∷ []
 
 abbrev pub link_columns : List Column
 link_columns = must (codes "a") domain ∷ must (codes "b") domain ∷ []
 
 abbrev pub peer_columns : List Column
 peer_columns =
-    must (codes "name") Name ∷ must (codes "as") domain ∷ must (codes "class") Class ∷ may (codes "neighbour") domain ∷ may (codes "port") domain
+    must (codes "name") Name ∷ must (codes "as") domain ∷ must (codes "class") Class ∷ may (codes "neighbour") domain ∷ may (codes "port") port
     ∷ may (codes "from") Address ∷ may (codes "connect") Address ∷ may (codes "expand") Flag ∷ may (codes "down") Flag ∷ []
 
 abbrev pub deny_columns : List Column
@@ -41,7 +42,7 @@ deny_columns = must (codes "at") domain ∷ must (codes "from") (Whole 0 65535) 
 abbrev pub parent_link_columns : List Column
 parent_link_columns =
     must (codes "from_as") domain ∷ must (codes "from") Fourth ∷ must (codes "to_as") domain ∷ must (codes "to") Fourth ∷ must (codes "near") Fourth
-    ∷ must (codes "far") Fourth ∷ must (codes "igp") (Whole 1 16777215) ∷ must (codes "te") (Whole 1 16777215)
+    ∷ must (codes "far") Fourth ∷ must (codes "igp") metric ∷ must (codes "te") metric
     ∷ must (codes "bw") (Whole 0 18446744073709551615) ∷ must (codes "colour") Colour ∷ may (codes "srlg") Numbers ∷ []
 
 abbrev pub parent_columns : List Column
@@ -50,7 +51,7 @@ parent_columns = must (codes "id") Address ∷ may (codes "link") Rows ∷ []
 abbrev pub top_columns : List Column
 top_columns =
     may (codes "element") Rows ∷ may (codes "link") Rows ∷ may (codes "peer") Rows ∷ may (codes "deny") Rows ∷ may (codes "parent") Rows
-    ∷ may (codes "workers") (Whole 1 8) ∷ may (codes "watch") domain ∷ []
+    ∷ may (codes "workers") (Whole 1 WORKERS_MAX) ∷ may (codes "watch") port ∷ []
 
 -- ---- the tables
 

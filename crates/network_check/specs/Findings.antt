@@ -1,5 +1,5 @@
 -- What is told of a network's files: of its settings first, then of each topology that they name.
-use Rattle.std.specs.Prelude.{◌≡◌, ◌||◌, ◌<◌, ◌^◌, ℕ, Bool, true, false, List, [], ◌∷◌, ◌++◌, length, codes, Option}
+use Rattle.std.specs.Prelude.{◌≡◌, ◌||◌, ◌<◌, ◌≤◌, ◌^◌, ℕ, Bool, true, false, List, [], ◌∷◌, ◌++◌, length, codes, Option}
 use Rattle.std.specs.List.{list_any}
 use Rattle.std.specs.Str.Lines.{lines}
 use Rattle.dom_edge.specs.Stores.{Files}
@@ -39,10 +39,13 @@ settings_text net (settings.Faulty text fault) = faulty_text net text fault (doc
 settings_text net settings.Unread = told net 0 (joined (codes "read fault" ∷ []))
 settings_text net settings.TooLong = told net 0 (joined (codes "too large" ∷ []))
 
--- the settings, and the topologies that they name, are found to be so; `counts` are the store's faults before and after
+-- The settings, and then the topologies that they name, are found to be so. `counts` are the store's faults before and after, and
+-- `between` those between the two.
 pub record AreFound (files : Option Files) (net : List ℕ) (counts : ℕ × ℕ) (f : Findings) : Type 0 where
-  pub settings : IsSettings files net counts f.settings
-  pub seen : AreSeen files (rows_of f.settings) counts f.seen
+  pub between : ℕ
+  pub later : counts.0 ≤ between
+  pub settings : IsSettings files net (counts.0, between) f.settings
+  pub seen : AreSeen files (rows_of f.settings) (between, counts.1) f.seen
 
 abbrev pub findings_text : List ℕ → Findings → List ℕ
 findings_text net f = settings_text net f.settings ++ topologies_text f.seen f.seen

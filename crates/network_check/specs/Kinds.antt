@@ -5,8 +5,10 @@ use Rattle.dom_base.specs.declared.addr.Addr.{Addr}
 use Rattle.dom_base.specs.declared.addr.Addr.TheVariants.{V4, V6}
 use Rattle.dom_base.specs.AddrText.{addr_in}
 use Rattle.dom_base.specs.Numerals.{colour_in}
-use Rattle.toml.specs.Data.{Data, integer, as_array, as_bool, as_str}
+use Rattle.te_links.specs.declared.limits.TheConstants.{SRLGS_MAX}
+use Rattle.toml.specs.Data.{Data, Items, integer, array, as_bool, as_str}
 use Rattle.plant_text.specs.Rules.{is_name as is_peer_name}
+use Rattle.plant_text.specs.SettingsText.{item_count, numbers_in}
 use Rattle.network_check.specs.declared.kinds.Kind.{Kind}
 use Rattle.network_check.specs.declared.kinds.Kind.TheVariants.{Rows, Whole, Address, Fourth, Flag, Text, Name, Class, Colour, Numbers}
 
@@ -45,6 +47,11 @@ is_class_word text = bytes_eq text (codes "client") || bytes_eq text (codes "nei
 abbrev pub is_class : Data → Bool
 is_class d = is_text is_class_word (as_str d)
 
+-- a list of numbers that a link may have as its shared risk groups
+abbrev pub are_numbers : Data → Bool
+are_numbers (array ds) = nat_le (item_count ds) SRLGS_MAX && is_some (numbers_in ds)
+are_numbers d = false
+
 abbrev pub is_kind : Kind → Data → Bool
 is_kind Rows d = true
 is_kind (Whole least most) d = is_number least most d
@@ -55,7 +62,7 @@ is_kind Text d = is_some (as_str d)
 is_kind Name d = is_name d
 is_kind Class d = is_class d
 is_kind Colour d = is_colour d
-is_kind Numbers d = is_some (as_array d)
+is_kind Numbers d = are_numbers d
 
 -- what a value may be, in words; of a number its bounds are told
 abbrev pub allowed : Kind → List ℕ
@@ -68,7 +75,7 @@ allowed Text = codes "a text in quotes"
 allowed Name = codes "1 to 16 letters and digits in quotes, a letter first"
 allowed Class = codes "client, neighbour or parent in quotes"
 allowed Colour = codes "8 hexadecimal digits in quotes"
-allowed Numbers = codes "a list of numbers"
+allowed Numbers = codes "a list of at most 8 numbers up to 4294967295"
 
 abbrev pub allowed_parts : Kind → List (List ℕ)
 allowed_parts (Whole least most) = decimal least ∷ codes " to " ∷ decimal most ∷ []

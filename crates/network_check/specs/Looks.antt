@@ -1,9 +1,9 @@
 -- What the files of a network were found to be: its settings, and the topologies that these name.
-use Rattle.std.specs.Prelude.{◌≡◌, ◌≤◌, ℕ, List, [], ◌∷◌, ◌++◌, length, map, All, Option, Some, None}
+use Rattle.std.specs.Prelude.{◌≡◌, ◌≤◌, ℕ, List, [], ◌∷◌, ◌++◌, length, map, sum_by, All, Option, Some, None}
 use Rattle.std.specs.List.{filter_map}
 use Rattle.std.specs.Option.{option_map}
 use Rattle.dom_base.specs.declared.names.As.{As}
-use Rattle.dom_edge.specs.Causes.{Rose}
+use Rattle.dom_edge.specs.Causes.{Rose, counted_on}
 use Rattle.dom_edge.specs.Stores.{Files, HasFile, IfFile, IsLongFile}
 use Rattle.te_links.specs.Rows.{Rows}
 use Rattle.te_text.specs.Reads.{Reads}
@@ -63,10 +63,19 @@ named rows = filter_map named_by rows
 abbrev pub place_of : Seen → As × List ℕ
 place_of s = (s.at, s.file)
 
--- These are the files that the rows name, in their order, and what each was found to be.
+-- how many files could not be read
+abbrev pub unread_look : Look → ℕ
+unread_look look.Unread = 1
+unread_look other = 0
+
+abbrev pub unread_looks : List Seen → ℕ
+unread_looks seen = sum_by (λ (s : Seen). unread_look s.look) seen
+
+-- These are the files that the rows name, in their order, and what each was found to be; the store failed at each that could not be read.
 pub record AreSeen (files : Option Files) (rows : List ElementRow) (counts : ℕ × ℕ) (seen : List Seen) : Type 0 where
   pub are_named : map place_of seen ≡ named rows
   pub are_looks : All (IsLook files counts) seen
+  pub failed : counted_on (unread_looks seen) counts.0 ≤ counts.1
 
 -- the file that a row names is seen too, where it names one
 abbrev pub SeesRow : Option Files → As → Option (List ℕ) → ℕ × ℕ → List Seen → List Seen → Type 0

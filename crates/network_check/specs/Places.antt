@@ -1,8 +1,10 @@
 -- At which line of a settings text a row or a key of it stands, by the words that lines begin with.
-use Rattle.std.specs.Prelude.{ℕ, ◌-◌, ◌==◌, ◌&&◌, ◌||◌, nat_le, Bool, false, List, [], ◌∷◌, length, take, slice_index, if◌then◌else◌}
+use Rattle.std.specs.Prelude.{ℕ, ◌==◌, ◌<◌, ◌&&◌, ◌||◌, nat_le, nat_lt, Bool, false, not, List, [], ◌∷◌, length, filter, find, take, take_while, slice_get, slice_index, Option, Some, None}
 use Rattle.std.specs.Str.{bytes_eq}
 use Rattle.line_text.specs.Lines.{NumberedLine, told_lines}
 use Rattle.line_text.specs.Words.{all_words}
+
+-- ---- a line
 
 -- this is the first of the words
 abbrev pub is_first : List ℕ → List (List ℕ) → Bool
@@ -31,32 +33,52 @@ is_named key (word ∷ words) = is_key key word
 abbrev pub names_key : List ℕ → List ℕ → Bool
 names_key key line = is_named key (all_words line)
 
--- the line with this header of which there are so many before it, by its number, and the lines behind; 0 where there is none
-abbrev pub seek : List ℕ → ℕ → List NumberedLine → ℕ × List NumberedLine
-seek header i [] = (0, [])
-seek header i (l ∷ ls) = if heads header l.text then (if i == 0 then (l.number, ls) else seek header (i - 1) ls) else seek header i ls
+-- ---- some lines of a text
 
--- the same; without a header, all lines
-abbrev pub behind : List ℕ → ℕ → List NumberedLine → ℕ × List NumberedLine
-behind [] i ls = (0, ls)
-behind (c ∷ header) i ls = seek (c ∷ header) i ls
+-- each line has a greater number than the one before it, and the first than that
+abbrev pub AreAbove : ℕ → List NumberedLine → Type 0
+AreAbove n [] = Unit {0}
+AreAbove n (l ∷ ls) = (n < l.number) × AreAbove l.number ls
 
--- the line with that key before the next table begins; else a default
-abbrev pub key_line : List ℕ → ℕ → List NumberedLine → ℕ
-key_line key default [] = default
-key_line key default (l ∷ ls) = if opens l.text then default else (if names_key key l.text then l.number else key_line key default ls)
+abbrev pub number_or : ℕ → Option NumberedLine → ℕ
+number_or default None = default
+number_or default (Some l) = l.number
 
--- the line of the header of a row
+-- those with this header
+abbrev pub headed : List ℕ → List NumberedLine → List NumberedLine
+headed header ls = filter (λ l. heads header l.text) ls
+
+-- those behind the line of that number
+abbrev pub behind : ℕ → List NumberedLine → List NumberedLine
+behind n ls = filter (λ l. nat_lt n l.number) ls
+
+-- the first with that key, before one that begins a table
+abbrev pub key_in : List ℕ → List NumberedLine → Option NumberedLine
+key_in key ls = find (λ l. names_key key l.text) (take_while (λ l. not (opens l.text)) ls)
+
+abbrev pub left_behind : List NumberedLine → Option NumberedLine → List NumberedLine
+left_behind ls None = []
+left_behind ls (Some l) = behind l.number ls
+
+-- ---- lines by their numbers; 0 where there is none
+
+-- the row with this header of which there are so many before
 abbrev pub line_of : List ℕ → List ℕ → ℕ → ℕ
-line_of text header i = (behind header i (told_lines text)).0
+line_of text header i = number_or 0 (slice_get (headed header (told_lines text)) i)
 
-abbrev pub value_line_in : List ℕ → ℕ × List NumberedLine → ℕ
-value_line_in key found = key_line key found.0 found.1
+-- a key of a row, whose line is this; where no line has it, the row
+abbrev pub key_behind : List NumberedLine → List ℕ → Option NumberedLine → ℕ
+key_behind ls key None = 0
+key_behind ls key (Some row) = number_or row.number (key_in key (behind row.number ls))
 
--- the line of a key of that row, or that of its header
 abbrev pub value_line : List ℕ → List ℕ → ℕ → List ℕ → ℕ
-value_line text header i key = value_line_in key (behind header i (told_lines text))
+value_line text header i key = key_behind (told_lines text) key (slice_get (headed header (told_lines text)) i)
 
--- the line of a key that stands before all tables
+-- a key that stands before all tables
 abbrev pub top_line : List ℕ → List ℕ → ℕ
-top_line text key = key_line key 0 (told_lines text)
+top_line text key = number_or 0 (key_in key (told_lines text))
+
+-- a key of a row; without a header, a key before all tables
+abbrev pub key_line : List ℕ → List ℕ → ℕ → List ℕ → ℕ
+key_line text [] i key = top_line text key
+key_line text (c ∷ header) i key = value_line text (c ∷ header) i key

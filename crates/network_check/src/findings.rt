@@ -5,6 +5,7 @@ ghost use Rattle.network_check.specs.Looks.{AreSeen};
 
 use crate::compare::{has_fault, tell_of_topologies};
 use crate::looks::{Seen, Settings, look_at_rows, look_at_settings};
+use crate::places::Page;
 use crate::settings::tell_faulty;
 use crate::told::{Piece, tell};
 use crate::warnings::warn_of_settings;
@@ -47,6 +48,8 @@ fn look_behind<S: Store>(
 
 fn look<S: Store>(alloc: Global, store: &mut S, net: &str) -> Result<Findings, NoMemory>
     ensures found { IfOk result (AreFound (S.files store.old) net.now (S.faults store.old, S.faults store.new)) }
+    ensures files { S.files store.new ≡ S.files store.old }
+    ensures later { S.faults store.old ≤ S.faults store.new }
 {
     let settings = look_at_settings(alloc, store, net)?;
     let seen = look_behind(alloc, store, &settings)?;
@@ -64,9 +67,19 @@ fn tell_settings(
 {
     match settings {
         Settings::Sound(text, network) => {
-            warn_of_settings(net, text.as_slice(), network.parts(), into)
+            let page = Page {
+                file: net,
+                text: text.as_slice(),
+            };
+            warn_of_settings(&page, network.parts(), into)
         }
-        Settings::Faulty(text, fault) => tell_faulty(alloc, net, text.as_slice(), fault, into),
+        Settings::Faulty(text, fault) => {
+            let page = Page {
+                file: net,
+                text: text.as_slice(),
+            };
+            tell_faulty(alloc, &page, fault, into)
+        }
         Settings::Unread => tell(net, 0, &[Piece::Text(b"read fault")], into),
         Settings::TooLong => tell(net, 0, &[Piece::Text(b"too large")], into),
     }
@@ -82,10 +95,12 @@ fn are_at_fault(settings: &Settings) -> bool
 }
 
 /// Reads the settings in a file and the topologies that they name, and tells of each file that is at fault, and of what no rule
-/// sees. A file that is not to be had is at fault.
+/// sees. A file that is not to be had is at fault; the store keeps its files.
 #[tactic(auto, using(crate::proofs::Shortness::settings_short, crate::proofs::Shortness::looks_short))]
 pub fn check<S: Store>(alloc: Global, store: &mut S, net: &str) -> Result<Report, NoMemory>
-    ensures { IfOk result (IsReport (S.files store.old) net.now (S.faults store.old, S.faults store.new)) }
+    ensures report { IfOk result (IsReport (S.files store.old) net.now (S.faults store.old, S.faults store.new)) }
+    ensures files { S.files store.new ≡ S.files store.old }
+    ensures later { S.faults store.old ≤ S.faults store.new }
 {
     let findings = look(alloc, store, net)?;
     let mut text = Vec::new(alloc);

@@ -1,12 +1,14 @@
 //! What the values of settings may be.
-ghost use Rattle.std.specs.Prelude.{◌≡◌, ◌≤◌, ◌||◌, length};
+ghost use Rattle.std.specs.Prelude.{◌≡◌, ◌≤◌, ◌||◌, is_some, length};
 ghost use Rattle.std.specs.List.{list_all};
-ghost use Rattle.toml.specs.View.{view};
+ghost use Rattle.toml.specs.View.{items_view, view};
 ghost use Rattle.plant_text.specs.Rules.{is_digit as is_digit_code, is_letter as is_letter_code, is_name as is_peer_name};
-ghost use Rattle.network_check.specs.Kinds.{is_address, is_class, is_colour, is_fourth, is_kind, is_name, is_number, spells_fourth};
+ghost use Rattle.plant_text.specs.SettingsText.{numbers_in};
+ghost use Rattle.network_check.specs.Kinds.{allowed, are_numbers as are_numbers_data, is_address, is_class, is_colour, is_fourth, is_kind, is_name, is_number, spells_fourth};
 
 use dom_base::{Addr, read_addr, read_colour};
 use plant_text::NAME_MAX;
+use te_links::SRLGS_MAX;
 use toml::Value;
 
 /// What a value may be.
@@ -26,9 +28,11 @@ pub enum Kind {
     /// The class of a peer.
     Class,
     Colour,
-    /// A list of numbers.
+    /// The numbers of shared risk groups.
     Numbers,
 }
+
+// ---- values
 
 fn is_whole(value: &Value, least: u64, most: u64) -> bool
     ensures { result ≡ is_number least most (view value.now) }
@@ -126,6 +130,28 @@ fn has_class(value: &Value) -> bool
     }
 }
 
+fn are_whole(items: &[Value]) -> bool
+    ensures { result ≡ is_some (numbers_in (items_view items.now)) }
+{
+    for item in items {
+        if !is_whole(item, 0, u64::from(u32::MAX)) {
+            return false;
+        }
+    }
+    true
+}
+
+fn are_numbers(value: &Value) -> bool
+    ensures { result ≡ are_numbers_data (view value.now) }
+{
+    match value.as_array() {
+        Some(items) => items.len() <= SRLGS_MAX && are_whole(items.as_slice()),
+        None => false,
+    }
+}
+
+// ---- kinds
+
 /// Whether a value is of a kind.
 pub(crate) fn fits(kind: Kind, value: &Value) -> bool
     ensures { result ≡ is_kind kind (view value.now) }
@@ -140,6 +166,24 @@ pub(crate) fn fits(kind: Kind, value: &Value) -> bool
         Kind::Name => has_name(value),
         Kind::Class => has_class(value),
         Kind::Colour => has_colour(value),
-        Kind::Numbers => value.as_array().is_some(),
+        Kind::Numbers => are_numbers(value),
+    }
+}
+
+/// What a value of a kind may be, in words; of a number the bounds are told by themselves.
+pub(crate) fn kind_words(kind: Kind) -> &'static [u8]
+    ensures { result.now ≡ allowed kind }
+{
+    match kind {
+        Kind::Rows => b"rows",
+        Kind::Whole(_, _) => b"",
+        Kind::Address => b"an address in quotes",
+        Kind::Fourth => b"an IPv4 address in quotes",
+        Kind::Flag => b"true or false",
+        Kind::Text => b"a text in quotes",
+        Kind::Name => b"1 to 16 letters and digits in quotes, a letter first",
+        Kind::Class => b"client, neighbour or parent in quotes",
+        Kind::Colour => b"8 hexadecimal digits in quotes",
+        Kind::Numbers => b"a list of at most 8 numbers up to 4294967295",
     }
 }

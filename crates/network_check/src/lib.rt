@@ -3,6 +3,7 @@
 
 mod compare;
 mod faults;
+mod fields;
 mod findings;
 mod kinds;
 mod looks;

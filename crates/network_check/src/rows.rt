@@ -5,29 +5,20 @@ ghost use Rattle.std.specs.Option.{option_copied};
 ghost use Rattle.std.specs.Str.Lines.{lines as lines_of};
 ghost use Rattle.toml.specs.Data.{get_member};
 ghost use Rattle.toml.specs.View.{items_view, table_view, view};
-ghost use Rattle.network_check.specs.Kinds.{allowed};
-ghost use Rattle.network_check.specs.Columns.{column, columns_text, field_text, is_column, items_text, kind_text, labelled_text, member_text, name_in, row_label, row_text, rows_text, sheet_of, unknown_in, unknown_text};
+ghost use Rattle.network_check.specs.Columns.{column, columns_text, field_text, is_column, items_text, kind_text, labelled_text, lack_text, member_text, name_in, row_label, row_text, rows_text, sheet_of, unknown_in, unknown_text, value_text};
 
-use crate::kinds::{Kind, fits};
-use crate::places::{row_line, top_line, value_line};
+use crate::fields::{Field, is_needed, key_of, kind_of};
+use crate::kinds::{Kind, fits, kind_words};
+use crate::places::{Page, key_line, row_line, top_line};
 use crate::told::{Piece, tell, write_pieces};
 use dom_base::NoMemory;
 use std::alloc::Global;
 use toml::{Table, Value};
 
-/// A key that a row may have.
-#[derive(Clone, Copy)]
-pub struct Field {
-    pub key: &'static str,
-    pub kind: Kind,
-    pub needed: bool,
-}
-
-/// The rows of a table, with the text that they stand in: its file, the header of a row, and what a row is called.
+/// The rows of a table of settings: the header of a row, none for the keys beside the tables, and what a row is called.
 #[derive(Clone, Copy)]
 pub struct Rows<'a> {
-    pub file: &'a [u8],
-    pub text: &'a [u8],
+    pub page: Page<'a>,
     pub header: &'a [u8],
     pub name: &'a [u8],
 }
@@ -39,22 +30,7 @@ pub(crate) fn value_at<'a>(table: &'a Table, key: &str) -> Option<&'a Value>
     table.get(key)
 }
 
-fn kind_words(kind: Kind) -> &'static [u8]
-    ensures { result.now ≡ allowed kind }
-{
-    match kind {
-        Kind::Rows => b"rows",
-        Kind::Whole(_, _) => b"",
-        Kind::Address => b"an address in quotes",
-        Kind::Fourth => b"an IPv4 address in quotes",
-        Kind::Flag => b"true or false",
-        Kind::Text => b"a text in quotes",
-        Kind::Name => b"1 to 16 letters and digits in quotes, a letter first",
-        Kind::Class => b"client, neighbour or parent in quotes",
-        Kind::Colour => b"8 hexadecimal digits in quotes",
-        Kind::Numbers => b"a list of numbers",
-    }
-}
+// ---- the keys of a row
 
 // What a key may be.
 fn tell_kind<'x>(
@@ -98,6 +74,54 @@ fn tell_kind<'x>(
     }
 }
 
+// A value that its key may not have.
+fn tell_value(
+    rows: &Rows<'_>,
+    index: usize,
+    label: &[u8],
+    field: &Field,
+    value: &Value,
+    into: &mut Vec<u8>,
+) -> Result<(), NoMemory>
+    requires short { length (lines_of (sheet_of rows.now).text) < 2 ^ 32 }
+    ensures { OnOk result (into.new.items ≡ into.old.items ++ value_text (sheet_of rows.now) index label.now (column field.now) (view value.now)) }
+{
+    let key = key_of(field).as_bytes();
+    let kind = kind_of(field);
+    if fits(kind, value) {
+        return Ok(());
+    }
+    let line = key_line(rows.page.text, rows.header, index, key);
+    tell_kind(rows.page.file, line, label, key, b" is not ", kind, into)
+}
+
+// A key that a row lacks.
+fn tell_lack(
+    rows: &Rows<'_>,
+    index: usize,
+    label: &[u8],
+    field: &Field,
+    into: &mut Vec<u8>,
+) -> Result<(), NoMemory>
+    requires short { length (lines_of (sheet_of rows.now).text) < 2 ^ 32 }
+    ensures { OnOk result (into.new.items ≡ into.old.items ++ lack_text (sheet_of rows.now) index label.now (column field.now)) }
+{
+    if !is_needed(field) {
+        return Ok(());
+    }
+    let key = key_of(field).as_bytes();
+    let line = row_line(rows.page.text, rows.header, index);
+    tell_kind(
+        rows.page.file,
+        line,
+        label,
+        key,
+        b" is missing: ",
+        kind_of(field),
+        into,
+    )
+}
+
 // A key that a row lacks, or whose value it may not have.
 fn tell_field(
     rows: &Rows<'_>,
@@ -110,32 +134,9 @@ fn tell_field(
     requires short { length (lines_of (sheet_of rows.now).text) < 2 ^ 32 }
     ensures { OnOk result (into.new.items ≡ into.old.items ++ field_text (sheet_of rows.now) index label.now (table_view table.now) (column field.now)) }
 {
-    let key = field.key.as_bytes();
-    match value_at(table, field.key) {
-        Some(value) => {
-            if fits(field.kind, value) {
-                Ok(())
-            } else {
-                let line = value_line(rows.text, rows.header, index, key);
-                tell_kind(rows.file, line, label, key, b" is not ", field.kind, into)
-            }
-        }
-        None => {
-            if field.needed {
-                let line = row_line(rows.text, rows.header, index);
-                tell_kind(
-                    rows.file,
-                    line,
-                    label,
-                    key,
-                    b" is missing: ",
-                    field.kind,
-                    into,
-                )
-            } else {
-                Ok(())
-            }
-        }
+    match value_at(table, key_of(field)) {
+        Some(value) => tell_value(rows, index, label, field, value, into),
+        None => tell_lack(rows, index, label, field, into),
     }
 }
 
@@ -150,8 +151,8 @@ fn tell_fields(
     requires short { length (lines_of (sheet_of rows.now).text) < 2 ^ 32 }
     ensures { OnOk result (into.new.items ≡ into.old.items ++ columns_text (sheet_of rows.now) index label.now (table_view table.now) (map column fields.now)) }
 {
-    for i in 0..fields.len() {
-        tell_field(rows, index, label, table, &fields[i], into)?;
+    for field in fields {
+        tell_field(rows, index, label, table, field, into)?;
     }
     Ok(())
 }
@@ -159,8 +160,8 @@ fn tell_fields(
 fn is_known(fields: &[Field], key: &str) -> bool
     ensures { result ≡ is_column (map column fields.now) key.now }
 {
-    for i in 0..fields.len() {
-        if fields[i].key == key {
+    for field in fields {
+        if key_of(field) == key {
             return true;
         }
     }
@@ -197,10 +198,9 @@ fn tell_unknown<'x>(
     match unknown_name(table, fields) {
         Some(name) => {
             let key = name.as_bytes();
-            let line = value_line(rows.text, rows.header, index, key);
             tell(
-                rows.file,
-                line,
+                rows.page.file,
+                key_line(rows.page.text, rows.header, index, key),
                 &[
                     Piece::Text(label),
                     Piece::Text(b": "),
@@ -214,7 +214,7 @@ fn tell_unknown<'x>(
     }
 }
 
-/// The keys of a table.
+/// The keys of a table: each that lacks or has a value that it may not have, and the first that is not known.
 pub(crate) fn tell_table(
     rows: &Rows<'_>,
     index: usize,
@@ -229,6 +229,8 @@ pub(crate) fn tell_table(
     tell_fields(rows, index, label, table, fields, into)?;
     tell_unknown(rows, index, label, table, fields, into)
 }
+
+// ---- the rows of a table
 
 /// The name of a row that has one.
 pub(crate) fn name_of(value: &Value) -> Option<&str>
@@ -285,8 +287,8 @@ fn tell_labelled(
     match table {
         Some(table) => tell_table(rows, index, label, table, fields, into),
         None => tell(
-            rows.file,
-            row_line(rows.text, rows.header, index),
+            rows.page.file,
+            row_line(rows.page.text, rows.header, index),
             &[Piece::Text(label), Piece::Text(b": is no table")],
             into,
         ),
@@ -341,8 +343,8 @@ pub(crate) fn tell_rows(
     match value.as_array() {
         Some(items) => tell_items(alloc, rows, items.as_slice(), fields, into),
         None => tell(
-            rows.file,
-            top_line(rows.text, rows.name),
+            rows.page.file,
+            top_line(rows.page.text, rows.name),
             &[
                 Piece::Text(rows.name),
                 Piece::Text(b": is no list of tables"),

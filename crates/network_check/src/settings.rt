@@ -1,14 +1,14 @@
 //! What is told of settings that are at fault: the fault, and each key that lacks, is not known, or has a value that it may not have.
-ghost use Rattle.std.specs.Prelude.{◌≡◌, ◌++◌, ◌<◌, ◌^◌, IfOk, OnOk, codes, length, option_map};
+ghost use Rattle.std.specs.Prelude.{◌≡◌, ◌++◌, ◌<◌, ◌^◌, IfOk, OnOk, length, option_map};
 ghost use Rattle.std.specs.Str.Lines.{lines as lines_of};
 ghost use Rattle.toml.specs.View.{table_view, view};
 ghost use Rattle.plant_text.specs.Reads.{document};
 ghost use Rattle.network_check.specs.Faulty.{deny_text, element_text, faulty_text, first_line, header, line_at, link_text, name_at, parent_link_text, parent_text, parent_value_text, peer_text, row_fault, settings_fault, tables_text, top_text};
 
 use crate::faults::fault_words;
-use crate::kinds::Kind;
-use crate::places::{row_line, top_line};
-use crate::rows::{Field, Rows, name_of, tell_rows, tell_table, value_at};
+use crate::fields::{DENIAL, ELEMENT, LINK, PARENT, PARENT_LINK, PEER, TOP};
+use crate::places::{Page, row_line, top_line};
+use crate::rows::{Rows, name_of, tell_rows, tell_table, value_at};
 use crate::told::{Piece, tell, write_pieces};
 use dom_base::NoMemory;
 use plant_text::NetFault;
@@ -20,382 +20,159 @@ use toml::{Table, Value, table_from_str};
 
 fn tell_elements(
     alloc: Global,
-    file: &[u8],
-    text: &[u8],
+    page: &Page<'_>,
     root: &Table,
     into: &mut Vec<u8>,
 ) -> Result<(), NoMemory>
-    requires short { length (lines_of text.now) < 2 ^ 32 }
-    ensures { OnOk result (into.new.items ≡ into.old.items ++ element_text file.now text.now (table_view root.now)) }
+    requires short { length (lines_of page.now.text.now) < 2 ^ 32 }
+    ensures { OnOk result (into.new.items ≡ into.old.items ++ element_text page.now.file.now page.now.text.now (table_view root.now)) }
 {
     let rows = Rows {
-        file,
-        text,
+        page: *page,
         header: b"[[element]]",
         name: b"element",
     };
-    let fields = [
-        Field {
-            key: "as",
-            kind: Kind::Whole(1, 65_535),
-            needed: true,
-        },
-        Field {
-            key: "id",
-            kind: Kind::Address,
-            needed: true,
-        },
-        Field {
-            key: "topology",
-            kind: Kind::Text,
-            needed: false,
-        },
-        Field {
-            key: "key_life",
-            kind: Kind::Whole(1, 3_600),
-            needed: false,
-        },
-        Field {
-            key: "parent",
-            kind: Kind::Flag,
-            needed: false,
-        },
-    ];
-    tell_rows(alloc, &rows, value_at(root, "element"), &fields, into)
+    tell_rows(alloc, &rows, value_at(root, "element"), &ELEMENT, into)
 }
 
 fn tell_links(
     alloc: Global,
-    file: &[u8],
-    text: &[u8],
+    page: &Page<'_>,
     root: &Table,
     into: &mut Vec<u8>,
 ) -> Result<(), NoMemory>
-    requires short { length (lines_of text.now) < 2 ^ 32 }
-    ensures { OnOk result (into.new.items ≡ into.old.items ++ link_text file.now text.now (table_view root.now)) }
+    requires short { length (lines_of page.now.text.now) < 2 ^ 32 }
+    ensures { OnOk result (into.new.items ≡ into.old.items ++ link_text page.now.file.now page.now.text.now (table_view root.now)) }
 {
     let rows = Rows {
-        file,
-        text,
+        page: *page,
         header: b"[[link]]",
         name: b"link",
     };
-    let fields = [
-        Field {
-            key: "a",
-            kind: Kind::Whole(1, 65_535),
-            needed: true,
-        },
-        Field {
-            key: "b",
-            kind: Kind::Whole(1, 65_535),
-            needed: true,
-        },
-    ];
-    tell_rows(alloc, &rows, value_at(root, "link"), &fields, into)
+    tell_rows(alloc, &rows, value_at(root, "link"), &LINK, into)
 }
 
 fn tell_peers(
     alloc: Global,
-    file: &[u8],
-    text: &[u8],
+    page: &Page<'_>,
     root: &Table,
     into: &mut Vec<u8>,
 ) -> Result<(), NoMemory>
-    requires short { length (lines_of text.now) < 2 ^ 32 }
-    ensures { OnOk result (into.new.items ≡ into.old.items ++ peer_text file.now text.now (table_view root.now)) }
+    requires short { length (lines_of page.now.text.now) < 2 ^ 32 }
+    ensures { OnOk result (into.new.items ≡ into.old.items ++ peer_text page.now.file.now page.now.text.now (table_view root.now)) }
 {
     let rows = Rows {
-        file,
-        text,
+        page: *page,
         header: b"[[peer]]",
         name: b"peer",
     };
-    let fields = [
-        Field {
-            key: "name",
-            kind: Kind::Name,
-            needed: true,
-        },
-        Field {
-            key: "as",
-            kind: Kind::Whole(1, 65_535),
-            needed: true,
-        },
-        Field {
-            key: "class",
-            kind: Kind::Class,
-            needed: true,
-        },
-        Field {
-            key: "neighbour",
-            kind: Kind::Whole(1, 65_535),
-            needed: false,
-        },
-        Field {
-            key: "port",
-            kind: Kind::Whole(1, 65_535),
-            needed: false,
-        },
-        Field {
-            key: "from",
-            kind: Kind::Address,
-            needed: false,
-        },
-        Field {
-            key: "connect",
-            kind: Kind::Address,
-            needed: false,
-        },
-        Field {
-            key: "expand",
-            kind: Kind::Flag,
-            needed: false,
-        },
-        Field {
-            key: "down",
-            kind: Kind::Flag,
-            needed: false,
-        },
-    ];
-    tell_rows(alloc, &rows, value_at(root, "peer"), &fields, into)
+    tell_rows(alloc, &rows, value_at(root, "peer"), &PEER, into)
 }
 
 fn tell_denials(
     alloc: Global,
-    file: &[u8],
-    text: &[u8],
+    page: &Page<'_>,
     root: &Table,
     into: &mut Vec<u8>,
 ) -> Result<(), NoMemory>
-    requires short { length (lines_of text.now) < 2 ^ 32 }
-    ensures { OnOk result (into.new.items ≡ into.old.items ++ deny_text file.now text.now (table_view root.now)) }
+    requires short { length (lines_of page.now.text.now) < 2 ^ 32 }
+    ensures { OnOk result (into.new.items ≡ into.old.items ++ deny_text page.now.file.now page.now.text.now (table_view root.now)) }
 {
     let rows = Rows {
-        file,
-        text,
+        page: *page,
         header: b"[[deny]]",
         name: b"deny",
     };
-    let fields = [
-        Field {
-            key: "at",
-            kind: Kind::Whole(1, 65_535),
-            needed: true,
-        },
-        Field {
-            key: "from",
-            kind: Kind::Whole(0, 65_535),
-            needed: true,
-        },
-        Field {
-            key: "next",
-            kind: Kind::Whole(1, 65_535),
-            needed: true,
-        },
-    ];
-    tell_rows(alloc, &rows, value_at(root, "deny"), &fields, into)
+    tell_rows(alloc, &rows, value_at(root, "deny"), &DENIAL, into)
 }
 
 fn tell_parent_links(
     alloc: Global,
-    file: &[u8],
-    text: &[u8],
+    page: &Page<'_>,
     parent: &Table,
     into: &mut Vec<u8>,
 ) -> Result<(), NoMemory>
-    requires short { length (lines_of text.now) < 2 ^ 32 }
-    ensures { OnOk result (into.new.items ≡ into.old.items ++ parent_link_text file.now text.now (table_view parent.now)) }
+    requires short { length (lines_of page.now.text.now) < 2 ^ 32 }
+    ensures { OnOk result (into.new.items ≡ into.old.items ++ parent_link_text page.now.file.now page.now.text.now (table_view parent.now)) }
 {
     let rows = Rows {
-        file,
-        text,
+        page: *page,
         header: b"[[parent.link]]",
         name: b"parent.link",
     };
-    let fields = [
-        Field {
-            key: "from_as",
-            kind: Kind::Whole(1, 65_535),
-            needed: true,
-        },
-        Field {
-            key: "from",
-            kind: Kind::Fourth,
-            needed: true,
-        },
-        Field {
-            key: "to_as",
-            kind: Kind::Whole(1, 65_535),
-            needed: true,
-        },
-        Field {
-            key: "to",
-            kind: Kind::Fourth,
-            needed: true,
-        },
-        Field {
-            key: "near",
-            kind: Kind::Fourth,
-            needed: true,
-        },
-        Field {
-            key: "far",
-            kind: Kind::Fourth,
-            needed: true,
-        },
-        Field {
-            key: "igp",
-            kind: Kind::Whole(1, 16_777_215),
-            needed: true,
-        },
-        Field {
-            key: "te",
-            kind: Kind::Whole(1, 16_777_215),
-            needed: true,
-        },
-        Field {
-            key: "bw",
-            kind: Kind::Whole(0, 18_446_744_073_709_551_615),
-            needed: true,
-        },
-        Field {
-            key: "colour",
-            kind: Kind::Colour,
-            needed: true,
-        },
-        Field {
-            key: "srlg",
-            kind: Kind::Numbers,
-            needed: false,
-        },
-    ];
-    tell_rows(alloc, &rows, value_at(parent, "link"), &fields, into)
+    tell_rows(alloc, &rows, value_at(parent, "link"), &PARENT_LINK, into)
 }
 
 fn tell_parent_table(
     alloc: Global,
-    file: &[u8],
-    text: &[u8],
+    page: &Page<'_>,
     parent: &Table,
     into: &mut Vec<u8>,
 ) -> Result<(), NoMemory>
-    requires short { length (lines_of text.now) < 2 ^ 32 }
-    ensures { OnOk result (into.new.items ≡ into.old.items ++ parent_text file.now text.now (table_view parent.now)) }
+    requires short { length (lines_of page.now.text.now) < 2 ^ 32 }
+    ensures { OnOk result (into.new.items ≡ into.old.items ++ parent_text page.now.file.now page.now.text.now (table_view parent.now)) }
 {
     let rows = Rows {
-        file,
-        text,
+        page: *page,
         header: b"[parent]",
         name: b"parent",
     };
-    let fields = [
-        Field {
-            key: "id",
-            kind: Kind::Address,
-            needed: true,
-        },
-        Field {
-            key: "link",
-            kind: Kind::Rows,
-            needed: false,
-        },
-    ];
-    tell_table(&rows, 0, b"parent", parent, &fields, into)?;
-    tell_parent_links(alloc, file, text, parent, into)
+    tell_table(&rows, 0, b"parent", parent, &PARENT, into)?;
+    tell_parent_links(alloc, page, parent, into)
 }
 
 fn tell_parent(
     alloc: Global,
-    file: &[u8],
-    text: &[u8],
+    page: &Page<'_>,
     value: Option<&Value>,
     into: &mut Vec<u8>,
 ) -> Result<(), NoMemory>
-    requires short { length (lines_of text.now) < 2 ^ 32 }
-    ensures { OnOk result (into.new.items ≡ into.old.items ++ parent_value_text file.now text.now (option_map (λ v. view v.now) value.entry)) }
+    requires short { length (lines_of page.now.text.now) < 2 ^ 32 }
+    ensures { OnOk result (into.new.items ≡ into.old.items ++ parent_value_text page.now.file.now page.now.text.now (option_map (λ v. view v.now) value.entry)) }
 {
     let Some(value) = value else {
         return Ok(());
     };
     match value.as_table() {
-        Some(table) => tell_parent_table(alloc, file, text, table, into),
+        Some(table) => tell_parent_table(alloc, page, table, into),
         None => tell(
-            file,
-            top_line(text, b"parent"),
+            page.file,
+            top_line(page.text, b"parent"),
             &[Piece::Text(b"parent: is no table")],
             into,
         ),
     }
 }
 
-fn tell_top(file: &[u8], text: &[u8], root: &Table, into: &mut Vec<u8>) -> Result<(), NoMemory>
-    requires short { length (lines_of text.now) < 2 ^ 32 }
-    ensures { OnOk result (into.new.items ≡ into.old.items ++ top_text file.now text.now (table_view root.now)) }
+// The keys beside the tables.
+fn tell_top(page: &Page<'_>, root: &Table, into: &mut Vec<u8>) -> Result<(), NoMemory>
+    requires short { length (lines_of page.now.text.now) < 2 ^ 32 }
+    ensures { OnOk result (into.new.items ≡ into.old.items ++ top_text page.now.file.now page.now.text.now (table_view root.now)) }
 {
     let rows = Rows {
-        file,
-        text,
+        page: *page,
         header: b"",
         name: b"settings",
     };
-    let fields = [
-        Field {
-            key: "element",
-            kind: Kind::Rows,
-            needed: false,
-        },
-        Field {
-            key: "link",
-            kind: Kind::Rows,
-            needed: false,
-        },
-        Field {
-            key: "peer",
-            kind: Kind::Rows,
-            needed: false,
-        },
-        Field {
-            key: "deny",
-            kind: Kind::Rows,
-            needed: false,
-        },
-        Field {
-            key: "parent",
-            kind: Kind::Rows,
-            needed: false,
-        },
-        Field {
-            key: "workers",
-            kind: Kind::Whole(1, 8),
-            needed: false,
-        },
-        Field {
-            key: "watch",
-            kind: Kind::Whole(1, 65_535),
-            needed: false,
-        },
-    ];
-    tell_table(&rows, 0, b"settings", root, &fields, into)
+    tell_table(&rows, 0, b"settings", root, &TOP, into)
 }
 
 // The keys of all tables.
 fn tell_tables(
     alloc: Global,
-    file: &[u8],
-    text: &[u8],
+    page: &Page<'_>,
     root: &Table,
     into: &mut Vec<u8>,
 ) -> Result<(), NoMemory>
-    requires short { length (lines_of text.now) < 2 ^ 32 }
-    ensures { OnOk result (into.new.items ≡ into.old.items ++ tables_text file.now text.now (table_view root.now)) }
+    requires short { length (lines_of page.now.text.now) < 2 ^ 32 }
+    ensures { OnOk result (into.new.items ≡ into.old.items ++ tables_text page.now.file.now page.now.text.now (table_view root.now)) }
 {
-    tell_elements(alloc, file, text, root, into)?;
-    tell_links(alloc, file, text, root, into)?;
-    tell_peers(alloc, file, text, root, into)?;
-    tell_denials(alloc, file, text, root, into)?;
-    tell_parent(alloc, file, text, value_at(root, "parent"), into)?;
-    tell_top(file, text, root, into)
+    tell_elements(alloc, page, root, into)?;
+    tell_links(alloc, page, root, into)?;
+    tell_peers(alloc, page, root, into)?;
+    tell_denials(alloc, page, root, into)?;
+    tell_parent(alloc, page, value_at(root, "parent"), into)?;
+    tell_top(page, root, into)
 }
 
 // ---- the first rule that is broken
@@ -423,13 +200,8 @@ fn first_of(one: u32, other: u32, last: u32) -> u32
     }
 }
 
-/// The line of a row of a table, of a table by itself, or of a key beside the tables.
-pub(crate) fn line_of_row(
-    alloc: Global,
-    text: &[u8],
-    table: &[u8],
-    index: usize,
-) -> Result<u32, NoMemory>
+// The line of a row of a table, of a table by itself, or of a key beside the tables.
+fn line_of_row(alloc: Global, text: &[u8], table: &[u8], index: usize) -> Result<u32, NoMemory>
     requires short { length (lines_of text.now) < 2 ^ 32 }
     ensures { IfOk result (λ line. line ≡ line_at text.now table.now index) }
 {
@@ -458,23 +230,22 @@ fn name_of_row<'a>(root: &'a Table, table: &str, index: usize) -> Option<&'a str
 // A rule that a row breaks.
 fn tell_row_fault<'x>(
     alloc: Global,
-    file: &[u8],
-    text: &[u8],
+    page: &Page<'_>,
     root: &'x Table,
     why: &'x [u8],
     table: &'x str,
     index: u32,
     into: &mut Vec<u8>,
 ) -> Result<(), NoMemory>
-    requires short { length (lines_of text.now) < 2 ^ 32 }
-    ensures { OnOk result (into.new.items ≡ into.old.items ++ row_fault file.now text.now (table_view root.now) why.now table.now index) }
+    requires short { length (lines_of page.now.text.now) < 2 ^ 32 }
+    ensures { OnOk result (into.new.items ≡ into.old.items ++ row_fault page.now.file.now page.now.text.now (table_view root.now) why.now table.now index) }
 {
     let words = table.as_bytes();
-    let line = line_of_row(alloc, text, words, index as usize)?;
+    let line = line_of_row(alloc, page.text, words, index as usize)?;
     let number = u64::from(index);
     match name_of_row(root, table, index as usize) {
         Some(name) => tell(
-            file,
+            page.file,
             line,
             &[
                 Piece::Text(why),
@@ -487,7 +258,7 @@ fn tell_row_fault<'x>(
             into,
         ),
         None => tell(
-            file,
+            page.file,
             line,
             &[
                 Piece::Text(why),
@@ -503,48 +274,29 @@ fn tell_row_fault<'x>(
 // The fault that every command tells of the settings.
 fn tell_fault(
     alloc: Global,
-    file: &[u8],
-    text: &[u8],
+    page: &Page<'_>,
     root: &Table,
     fault: &NetFault,
     into: &mut Vec<u8>,
 ) -> Result<(), NoMemory>
-    requires short { length (lines_of text.now) < 2 ^ 32 }
-    ensures { OnOk result (into.new.items ≡ into.old.items ++ settings_fault file.now text.now (table_view root.now) fault.now) }
+    requires short { length (lines_of page.now.text.now) < 2 ^ 32 }
+    ensures { OnOk result (into.new.items ≡ into.old.items ++ settings_fault page.now.file.now page.now.text.now (table_view root.now) fault.now) }
 {
     match fault {
         NetFault::Shape(table, i) => {
-            tell_row_fault(alloc, file, text, root, b"shape ", table.as_str(), *i, into)
+            tell_row_fault(alloc, page, root, b"shape ", table.as_str(), *i, into)
         }
         NetFault::Duplicate(table, i) => {
-            tell_row_fault(
-                alloc,
-                file,
-                text,
-                root,
-                b"duplicate ",
-                table.as_str(),
-                *i,
-                into,
-            )
+            tell_row_fault(alloc, page, root, b"duplicate ", table.as_str(), *i, into)
         }
         NetFault::Unknown(table, i) => {
-            tell_row_fault(
-                alloc,
-                file,
-                text,
-                root,
-                b"unknown ",
-                table.as_str(),
-                *i,
-                into,
-            )
+            tell_row_fault(alloc, page, root, b"unknown ", table.as_str(), *i, into)
         }
         NetFault::NoParent(i) => {
-            tell_row_fault(alloc, file, text, root, b"no parent ", "element", *i, into)
+            tell_row_fault(alloc, page, root, b"no parent ", "element", *i, into)
         }
         NetFault::TooMany(table) => tell(
-            file,
+            page.file,
             0,
             &[
                 Piece::Text(b"too many "),
@@ -552,9 +304,11 @@ fn tell_fault(
             ],
             into,
         ),
-        other => tell(file, 0, &[Piece::Text(fault_words(other))], into),
+        other => tell(page.file, 0, &[Piece::Text(fault_words(other))], into),
     }
 }
+
+// ---- the whole
 
 // The document of a text, where it is one.
 fn document_of(alloc: Global, text: &[u8]) -> Result<Option<Table>, NoMemory>
@@ -575,22 +329,21 @@ fn document_of(alloc: Global, text: &[u8]) -> Result<Option<Table>, NoMemory>
     }
 }
 
-/// Tells of settings at fault.
+/// Tells of settings at fault: the first rule that they break, and then the keys of all tables.
 pub(crate) fn tell_faulty(
     alloc: Global,
-    file: &[u8],
-    text: &[u8],
+    page: &Page<'_>,
     fault: &NetFault,
     into: &mut Vec<u8>,
 ) -> Result<(), NoMemory>
-    requires short { length (lines_of text.now) < 2 ^ 32 }
-    ensures { OnOk result (into.new.items ≡ into.old.items ++ faulty_text file.now text.now fault.now (document text.now)) }
+    requires short { length (lines_of page.now.text.now) < 2 ^ 32 }
+    ensures { OnOk result (into.new.items ≡ into.old.items ++ faulty_text page.now.file.now page.now.text.now fault.now (document page.now.text.now)) }
 {
-    match document_of(alloc, text)? {
+    match document_of(alloc, page.text)? {
         Some(root) => {
-            tell_fault(alloc, file, text, &root, fault, into)?;
-            tell_tables(alloc, file, text, &root, into)
+            tell_fault(alloc, page, &root, fault, into)?;
+            tell_tables(alloc, page, &root, into)
         }
-        None => tell(file, 0, &[Piece::Text(fault_words(fault))], into),
+        None => tell(page.file, 0, &[Piece::Text(fault_words(fault))], into),
     }
 }

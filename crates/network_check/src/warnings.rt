@@ -5,7 +5,7 @@ ghost use Rattle.std.specs.Str.Lines.{lines as lines_of};
 ghost use Rattle.network_check.specs.Warnings.{element_warnings, elements_warnings, ends_at, is_joined, is_way, leads_out, meets_watch as comes_to_watch, met_warning, peer_warnings, peers_warnings, settings_warnings};
 
 use crate::meeting::{first_alike, share};
-use crate::places::row_line;
+use crate::places::{Page, row_line};
 use crate::told::{Piece, tell, tell_if};
 use disclosure::Class;
 use dom_base::{As, NoMemory};
@@ -50,21 +50,20 @@ fn is_linked(parts: &NetworkParts, element: &ElementRow) -> bool
 }
 
 fn warn_of_element(
-    file: &[u8],
-    text: &[u8],
+    page: &Page<'_>,
     parts: &NetworkParts,
     index: usize,
     element: &ElementRow,
     into: &mut Vec<u8>,
 ) -> Result<(), NoMemory>
-    requires short { length (lines_of text.now) < 2 ^ 32 }
-    ensures { OnOk result (into.new.items ≡ into.old.items ++ element_warnings file.now text.now parts.now index element.now) }
+    requires short { length (lines_of page.now.text.now) < 2 ^ 32 }
+    ensures { OnOk result (into.new.items ≡ into.old.items ++ element_warnings page.now.file.now page.now.text.now parts.now index element.now) }
 {
-    let line = row_line(text, b"[[element]]", index);
+    let line = row_line(page.text, b"[[element]]", index);
     let number = u64::from(element.own.0);
     tell_if(
         element.topology.is_none(),
-        file,
+        page.file,
         line,
         &[
             Piece::Text(b"warning element "),
@@ -76,7 +75,7 @@ fn warn_of_element(
     let is_alone = parts.elements.len() > 1 && !is_linked(parts, element);
     tell_if(
         is_alone,
-        file,
+        page.file,
         line,
         &[
             Piece::Text(b"warning element "),
@@ -88,17 +87,16 @@ fn warn_of_element(
 }
 
 fn warn_of_elements(
-    file: &[u8],
-    text: &[u8],
+    page: &Page<'_>,
     parts: &NetworkParts,
     into: &mut Vec<u8>,
 ) -> Result<(), NoMemory>
-    requires short { length (lines_of text.now) < 2 ^ 32 }
-    ensures { OnOk result (into.new.items ≡ into.old.items ++ elements_warnings file.now text.now parts.now 0 parts.now.elements) }
+    requires short { length (lines_of page.now.text.now) < 2 ^ 32 }
+    ensures { OnOk result (into.new.items ≡ into.old.items ++ elements_warnings page.now.file.now page.now.text.now parts.now 0 parts.now.elements) }
 {
     let elements = parts.elements.as_slice();
     for i in 0..elements.len() {
-        warn_of_element(file, text, parts, i, &elements[i], into)?;
+        warn_of_element(page, parts, i, &elements[i], into)?;
     }
     Ok(())
 }
@@ -142,22 +140,21 @@ fn warn_of_met<'x>(
 }
 
 fn warn_of_peer(
-    file: &[u8],
-    text: &[u8],
+    page: &Page<'_>,
     watch: Option<u16>,
     index: usize,
     before: &[PeerRow],
     row: &PeerRow,
     into: &mut Vec<u8>,
 ) -> Result<(), NoMemory>
-    requires short { length (lines_of text.now) < 2 ^ 32 }
-    ensures { OnOk result (into.new.items ≡ into.old.items ++ peer_warnings file.now text.now watch index before.now row.now) }
+    requires short { length (lines_of page.now.text.now) < 2 ^ 32 }
+    ensures { OnOk result (into.new.items ≡ into.old.items ++ peer_warnings page.now.file.now page.now.text.now watch index before.now row.now) }
 {
-    let line = row_line(text, b"[[peer]]", index);
-    warn_of_met(file, line, before, row, into)?;
+    let line = row_line(page.text, b"[[peer]]", index);
+    warn_of_met(page.file, line, before, row, into)?;
     tell_if(
         meets_watch(watch, row),
-        file,
+        page.file,
         line,
         &[
             Piece::Text(b"warning serve refuses peer "),
@@ -172,31 +169,29 @@ fn warn_of_peer(
 
 #[tactic(auto, using(crate::proofs::Peers::peers_next))]
 fn warn_of_peers(
-    file: &[u8],
-    text: &[u8],
+    page: &Page<'_>,
     parts: &NetworkParts,
     into: &mut Vec<u8>,
 ) -> Result<(), NoMemory>
-    requires short { length (lines_of text.now) < 2 ^ 32 }
-    ensures { OnOk result (into.new.items ≡ into.old.items ++ peers_warnings file.now text.now parts.now.watch [] parts.now.peers) }
+    requires short { length (lines_of page.now.text.now) < 2 ^ 32 }
+    ensures { OnOk result (into.new.items ≡ into.old.items ++ peers_warnings page.now.file.now page.now.text.now parts.now.watch [] parts.now.peers) }
 {
     let peers = parts.peers.as_slice();
     for i in 0..peers.len() {
-        warn_of_peer(file, text, parts.watch, i, &peers[..i], &peers[i], into)?;
+        warn_of_peer(page, parts.watch, i, &peers[..i], &peers[i], into)?;
     }
     Ok(())
 }
 
 /// Warns of settings that obey the rules.
 pub(crate) fn warn_of_settings(
-    file: &[u8],
-    text: &[u8],
+    page: &Page<'_>,
     parts: &NetworkParts,
     into: &mut Vec<u8>,
 ) -> Result<(), NoMemory>
-    requires short { length (lines_of text.now) < 2 ^ 32 }
-    ensures { OnOk result (into.new.items ≡ into.old.items ++ settings_warnings file.now text.now parts.now) }
+    requires short { length (lines_of page.now.text.now) < 2 ^ 32 }
+    ensures { OnOk result (into.new.items ≡ into.old.items ++ settings_warnings page.now.file.now page.now.text.now parts.now) }
 {
-    warn_of_elements(file, text, parts, into)?;
-    warn_of_peers(file, text, parts, into)
+    warn_of_elements(page, parts, into)?;
+    warn_of_peers(page, parts, into)
 }
