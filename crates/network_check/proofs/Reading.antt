@@ -8,11 +8,13 @@ use Rattle.network_files.specs.Reading.{IsTopologyFault}
 use Rattle.network_files.specs.Settings.{settings_max}
 use Rattle.network_files.specs.Topologies.{topology_max}
 use Rattle.network_files.proofs.Found.{in_file}
-use Rattle.plant_text.specs.Reads.{IsFaulty, Reads as ReadsSettings}
+use Rattle.toml.specs.View.{table_view}
+use Rattle.plant_text.specs.Reads.{IsFaulty, Reads as ReadsSettings, document}
 use Rattle.network_check.specs.declared.looks.Look.{Look}
 use Rattle.network_check.specs.declared.looks.Look.TheVariants as look
 use Rattle.network_check.specs.declared.looks.Settings.{Settings}
 use Rattle.network_check.specs.declared.looks.Settings.TheVariants as settings
+use Rattle.network_check.specs.Documents.{IsNoneAt}
 use Rattle.network_check.specs.Looks.{IsChartLook, IsChartText, IsSettings, IsSettingsText}
 
 has_read : (files : Option Files) (name bytes : List ℕ) (limit : ℕ) → ReadsFile files name limit (Ok bytes) → HasFile files name bytes
@@ -40,10 +42,12 @@ settings_look files name text counts reads within (settings.Sound bytes n) is = 
   subst (λ (t : List ℕ). length t ≤ settings_max) (sym is.0) within,
   subst (λ (t : List ℕ). ReadsSettings t n) (sym is.0) is.1,
 )
-settings_look files name text counts reads within (settings.Faulty bytes fault) is = (
+settings_look files name text counts reads within (settings.Faulty bytes root fault) is = (
   subst (HasFile files name) (sym is.0) (has_read files name text settings_max reads),
   subst (λ (t : List ℕ). length t ≤ settings_max) (sym is.0) within,
-  subst (λ (t : List ℕ). IsFaulty t fault) (sym is.0) is.1,
+  subst (λ (t : List ℕ). document t ≡ Some (table_view root)) (sym is.0) is.1,
+  subst (λ (t : List ℕ). IsFaulty t fault) (sym is.0) is.2,
 )
+settings_look files name text counts reads within (settings.NoDocument line) is = in_file files name text settings_max (λ bytes. IsNoneAt bytes line) reads is
 settings_look files name text counts reads within settings.Unread is = absurd is
 settings_look files name text counts reads within settings.TooLong is = absurd is

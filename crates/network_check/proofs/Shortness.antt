@@ -21,7 +21,8 @@ few bytes = few_lines bytes (count_by-le-length (λ b. b == 10) bytes)
 
 pub settings_short : (files : Option Files) (name : List ℕ) (counts : ℕ × ℕ) (s : Settings) → IsSettings files name counts s → IsShortText s
 settings_short files name counts (settings.Sound text n) is = omega (arith, few text, is.1)
-settings_short files name counts (settings.Faulty text fault) is = omega (arith, few text, is.1)
+settings_short files name counts (settings.Faulty text root fault) is = omega (arith, few text, is.1)
+settings_short files name counts (settings.NoDocument line) is = tt
 settings_short files name counts settings.Unread is = tt
 settings_short files name counts settings.TooLong is = tt
 

@@ -7,9 +7,10 @@ use Rattle.plant_text.specs.SettingsText.{names}
 use Rattle.network_check.specs.declared.fields.Field.{Field}
 use Rattle.network_check.specs.declared.fields.Field.TheVariants.{Must, May}
 use Rattle.network_check.specs.declared.kinds.Kind.{Kind}
-use Rattle.network_check.specs.declared.rows.Rows.{Rows}
 use Rattle.network_check.specs.Kinds.{allowed_parts, is_kind}
 use Rattle.network_check.specs.Places.{key_line, line_of, top_line}
+use Rattle.network_check.specs.Pairs.{pairs_text}
+use Rattle.network_check.specs.Sheets.{Sheet}
 use Rattle.network_check.specs.Told.{joined, shown, told}
 
 -- a key that a row may have, and whether it must
@@ -27,16 +28,6 @@ may key kind = record { key = key; kind = kind; needed = false }
 abbrev pub column : Field → Column
 column (Must key kind) = must key.now kind
 column (May key kind) = may key.now kind
-
--- the rows of a table: the file and the text that they stand in, the header of each, none for the keys beside the tables, and what each is called
-pub record Sheet : Type 0 where
-  pub file : List ℕ
-  pub text : List ℕ
-  pub header : List ℕ
-  pub name : List ℕ
-
-abbrev pub sheet_of : Rows → Sheet
-sheet_of r = record { file = r.page.file.now; text = r.page.text.now; header = r.header.now; name = r.name.now }
 
 -- ---- the keys of a row
 
@@ -76,8 +67,12 @@ unknown_in cs ms = find (λ k. not (is_column cs k)) (names ms)
 abbrev pub unknown_text : Sheet → ℕ → List ℕ → List Column → Members → List ℕ
 unknown_text s i label cs ms = strange_text s i label (unknown_in cs ms)
 
+-- that, and of a peer the keys that do not go together
+abbrev pub others_text : Sheet → ℕ → List ℕ → List Column → Members → List ℕ
+others_text s i label cs ms = unknown_text s i label cs ms ++ (if s.are_peers then pairs_text s i label ms else [])
+
 abbrev pub row_text : Sheet → ℕ → List ℕ → List Column → Members → List ℕ
-row_text s i label cs ms = columns_text s i label ms cs ++ unknown_text s i label cs ms
+row_text s i label cs ms = columns_text s i label ms cs ++ others_text s i label cs ms
 
 -- ---- the rows of a table
 

@@ -8,9 +8,10 @@ use Rattle.plant_text.specs.declared.fault.NetFault.{NetFault}
 use Rattle.plant_text.specs.declared.fault.NetFault.TheVariants as fault
 use Rattle.network_check.specs.declared.kinds.Kind.{Kind}
 use Rattle.network_check.specs.declared.kinds.Kind.TheVariants.{Rows, Whole, Address, Fourth, Flag, Text, Name, Class, Colour, Numbers}
-use Rattle.network_check.specs.Columns.{Column, Sheet, may, must, name_in, row_text, rows_text}
+use Rattle.network_check.specs.Columns.{Column, may, must, name_in, row_text, rows_text}
 use Rattle.network_check.specs.Faults.{fault_text}
 use Rattle.network_check.specs.Places.{line_of, top_line}
+use Rattle.network_check.specs.Sheets.{sheet}
 use Rattle.network_check.specs.Told.{joined, shown, told}
 
 -- ---- the keys of the tables
@@ -55,28 +56,25 @@ top_columns =
 
 -- ---- the tables
 
-abbrev pub sheet : List ℕ → List ℕ → List ℕ → List ℕ → Sheet
-sheet file text header name = record { file = file; text = text; header = header; name = name }
-
 abbrev pub element_text : List ℕ → List ℕ → Members → List ℕ
-element_text file text root = rows_text (sheet file text (codes "[[element]]") (codes "element")) element_columns (get_member (codes "element") root)
+element_text file text root = rows_text (sheet file text (codes "[[element]]") (codes "element") false) element_columns (get_member (codes "element") root)
 
 abbrev pub link_text : List ℕ → List ℕ → Members → List ℕ
-link_text file text root = rows_text (sheet file text (codes "[[link]]") (codes "link")) link_columns (get_member (codes "link") root)
+link_text file text root = rows_text (sheet file text (codes "[[link]]") (codes "link") false) link_columns (get_member (codes "link") root)
 
 abbrev pub peer_text : List ℕ → List ℕ → Members → List ℕ
-peer_text file text root = rows_text (sheet file text (codes "[[peer]]") (codes "peer")) peer_columns (get_member (codes "peer") root)
+peer_text file text root = rows_text (sheet file text (codes "[[peer]]") (codes "peer") true) peer_columns (get_member (codes "peer") root)
 
 abbrev pub deny_text : List ℕ → List ℕ → Members → List ℕ
-deny_text file text root = rows_text (sheet file text (codes "[[deny]]") (codes "deny")) deny_columns (get_member (codes "deny") root)
+deny_text file text root = rows_text (sheet file text (codes "[[deny]]") (codes "deny") false) deny_columns (get_member (codes "deny") root)
 
 abbrev pub parent_link_text : List ℕ → List ℕ → Members → List ℕ
 parent_link_text file text parent =
-    rows_text (sheet file text (codes "[[parent.link]]") (codes "parent.link")) parent_link_columns (get_member (codes "link") parent)
+    rows_text (sheet file text (codes "[[parent.link]]") (codes "parent.link") false) parent_link_columns (get_member (codes "link") parent)
 
 abbrev pub parent_text : List ℕ → List ℕ → Members → List ℕ
 parent_text file text parent =
-    row_text (sheet file text (codes "[parent]") (codes "parent")) 0 (codes "parent") parent_columns parent ++ parent_link_text file text parent
+    row_text (sheet file text (codes "[parent]") (codes "parent") false) 0 (codes "parent") parent_columns parent ++ parent_link_text file text parent
 
 abbrev pub parent_value_text : List ℕ → List ℕ → Option Data → List ℕ
 parent_value_text file text None = []
@@ -85,7 +83,7 @@ parent_value_text file text (Some d) = told file (top_line text (codes "parent")
 
 -- names beside the tables
 abbrev pub top_text : List ℕ → List ℕ → Members → List ℕ
-top_text file text root = row_text (sheet file text [] (codes "settings")) 0 (codes "settings") top_columns root
+top_text file text root = row_text (sheet file text [] (codes "settings") false) 0 (codes "settings") top_columns root
 
 abbrev pub tables_text : List ℕ → List ℕ → Members → List ℕ
 tables_text file text root =
@@ -126,7 +124,5 @@ settings_fault file text root other = told file 0 (joined (fault_text other ∷ 
 
 -- ---- the whole
 
--- of settings that are a document, and of a text that is none
-abbrev pub faulty_text : List ℕ → List ℕ → NetFault → Option Members → List ℕ
-faulty_text file text fault (Some root) = settings_fault file text root fault ++ tables_text file text root
-faulty_text file text fault None = told file 0 (joined (fault_text fault ∷ []))
+abbrev pub faulty_text : List ℕ → List ℕ → NetFault → Members → List ℕ
+faulty_text file text fault root = settings_fault file text root fault ++ tables_text file text root

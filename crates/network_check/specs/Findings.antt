@@ -2,9 +2,9 @@
 use Rattle.std.specs.Prelude.{◌≡◌, ◌||◌, ◌<◌, ◌≤◌, ◌^◌, ℕ, Bool, true, false, List, [], ◌∷◌, ◌++◌, length, codes, Option}
 use Rattle.std.specs.List.{list_any}
 use Rattle.std.specs.Str.Lines.{lines}
+use Rattle.toml.specs.View.{table_view}
 use Rattle.dom_edge.specs.Stores.{Files}
 use Rattle.plant_text.specs.declared.settings.ElementRow.{ElementRow}
-use Rattle.plant_text.specs.Reads.{document}
 use Rattle.network_check.specs.declared.looks.Seen.{Seen}
 use Rattle.network_check.specs.declared.looks.Settings.{Settings}
 use Rattle.network_check.specs.declared.looks.Settings.TheVariants as settings
@@ -23,19 +23,21 @@ rows_of other = []
 
 abbrev pub is_faulty : Settings → Bool
 is_faulty (settings.Sound text n) = false
-is_faulty (settings.Faulty text fault) = true
+is_faulty (settings.Faulty text root fault) = true
+is_faulty (settings.NoDocument line) = true
 is_faulty settings.Unread = true
 is_faulty settings.TooLong = true
 
 -- a text has fewer lines than a number of a line can say
 abbrev pub IsShortText : Settings → Type 0
 IsShortText (settings.Sound text n) = length (lines text) < 2 ^ 32
-IsShortText (settings.Faulty text fault) = length (lines text) < 2 ^ 32
+IsShortText (settings.Faulty text root fault) = length (lines text) < 2 ^ 32
 IsShortText other = Unit {0}
 
 abbrev pub settings_text : List ℕ → Settings → List ℕ
 settings_text net (settings.Sound text n) = settings_warnings net text n
-settings_text net (settings.Faulty text fault) = faulty_text net text fault (document text)
+settings_text net (settings.Faulty text root fault) = faulty_text net text fault (table_view root)
+settings_text net (settings.NoDocument line) = told net line (joined (codes "not toml" ∷ []))
 settings_text net settings.Unread = told net 0 (joined (codes "read fault" ∷ []))
 settings_text net settings.TooLong = told net 0 (joined (codes "too large" ∷ []))
 

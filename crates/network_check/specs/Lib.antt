@@ -5,8 +5,11 @@ pub mod Faulty
 pub mod Warnings
 pub mod Compare
 pub mod Columns
+pub mod Pairs
+pub mod Sheets
 pub mod Kinds
 pub mod Meeting
 pub mod Places
+pub mod Documents
 pub mod Faults
 pub mod Told

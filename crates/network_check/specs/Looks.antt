@@ -7,8 +7,9 @@ use Rattle.dom_edge.specs.Causes.{Rose, counted_on}
 use Rattle.dom_edge.specs.Stores.{Files, HasFile, IfFile, IsLongFile}
 use Rattle.te_links.specs.Rows.{Rows}
 use Rattle.te_text.specs.Reads.{Reads}
+use Rattle.toml.specs.View.{table_view}
 use Rattle.plant_text.specs.declared.settings.ElementRow.{ElementRow}
-use Rattle.plant_text.specs.Reads.{IsFaulty, Reads as ReadsSettings}
+use Rattle.plant_text.specs.Reads.{IsFaulty, Reads as ReadsSettings, document}
 use Rattle.network_files.specs.Reading.{IsTopologyFault}
 use Rattle.network_files.specs.Settings.{settings_max}
 use Rattle.network_files.specs.Topologies.{topology_max}
@@ -18,19 +19,23 @@ use Rattle.network_check.specs.declared.looks.Look.TheVariants as look
 use Rattle.network_check.specs.declared.looks.Seen.{Seen}
 use Rattle.network_check.specs.declared.looks.Settings.{Settings}
 use Rattle.network_check.specs.declared.looks.Settings.TheVariants as settings
+use Rattle.network_check.specs.Documents.{IsNoneAt}
 
 -- ---- settings
 
 -- what a text of settings is
 abbrev pub IsSettingsText : List ℕ → Settings → Type 0
 IsSettingsText text (settings.Sound bytes n) = (bytes ≡ text) × ReadsSettings text n
-IsSettingsText text (settings.Faulty bytes fault) = (bytes ≡ text) × IsFaulty text fault
+IsSettingsText text (settings.Faulty bytes root fault) = (bytes ≡ text) × (document text ≡ Some (table_view root)) × IsFaulty text fault
+IsSettingsText text (settings.NoDocument line) = IsNoneAt text line
 IsSettingsText text other = ⊥
 
 -- the file of that name has such settings, or it is not to be had; `counts` are the store's faults before and after
 abbrev pub IsSettings : Option Files → List ℕ → ℕ × ℕ → Settings → Type 0
 IsSettings files name counts (settings.Sound text n) = HasFile files name text × (length text ≤ settings_max) × ReadsSettings text n
-IsSettings files name counts (settings.Faulty text fault) = HasFile files name text × (length text ≤ settings_max) × IsFaulty text fault
+IsSettings files name counts (settings.Faulty text root fault) =
+    HasFile files name text × (length text ≤ settings_max) × (document text ≡ Some (table_view root)) × IsFaulty text fault
+IsSettings files name counts (settings.NoDocument line) = IfFile files name (λ bytes. IsNoneAt bytes line)
 IsSettings files name counts settings.Unread = Rose counts.0 counts.1
 IsSettings files name counts settings.TooLong = IsLongFile files name settings_max
 

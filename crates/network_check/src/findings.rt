@@ -42,7 +42,10 @@ fn look_behind<S: Store>(
             let parts = network.parts();
             look_at_rows(alloc, store, parts.elements.as_slice())
         }
-        Settings::Faulty(_, _) | Settings::Unread | Settings::TooLong => Ok(List::new(alloc)),
+        Settings::Faulty(_, _, _)
+        | Settings::NoDocument(_)
+        | Settings::Unread
+        | Settings::TooLong => Ok(List::new(alloc)),
     }
 }
 
@@ -73,13 +76,14 @@ fn tell_settings(
             };
             warn_of_settings(&page, network.parts(), into)
         }
-        Settings::Faulty(text, fault) => {
+        Settings::Faulty(text, root, fault) => {
             let page = Page {
                 file: net,
                 text: text.as_slice(),
             };
-            tell_faulty(alloc, &page, fault, into)
+            tell_faulty(alloc, &page, root, fault, into)
         }
+        Settings::NoDocument(line) => tell(net, *line, &[Piece::Text(b"not toml")], into),
         Settings::Unread => tell(net, 0, &[Piece::Text(b"read fault")], into),
         Settings::TooLong => tell(net, 0, &[Piece::Text(b"too large")], into),
     }
@@ -90,7 +94,10 @@ fn are_at_fault(settings: &Settings) -> bool
 {
     match settings {
         Settings::Sound(_, _) => false,
-        Settings::Faulty(_, _) | Settings::Unread | Settings::TooLong => true,
+        Settings::Faulty(_, _, _)
+        | Settings::NoDocument(_)
+        | Settings::Unread
+        | Settings::TooLong => true,
     }
 }
 

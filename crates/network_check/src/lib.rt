@@ -2,12 +2,14 @@
 #![tactic(auto)]
 
 mod compare;
+mod documents;
 mod faults;
 mod fields;
 mod findings;
 mod kinds;
 mod looks;
 mod meeting;
+mod pairs;
 mod places;
 mod rows;
 mod settings;

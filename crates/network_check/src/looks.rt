@@ -1,14 +1,19 @@
 //! What the files of a network were found to be.
-ghost use Rattle.std.specs.Prelude.{◌≡◌, ◌≤◌, IfOk, OnOk, length};
+ghost use Rattle.std.specs.Prelude.{◌≡◌, ◌≤◌, IfOk, OnOk, Some, length};
+ghost use Rattle.toml.specs.View.{table_view};
+ghost use Rattle.plant_text.specs.Reads.{document};
+ghost use Rattle.network_files.specs.Settings.{settings_max};
 ghost use Rattle.network_files.specs.Topologies.{topology_max};
 ghost use Rattle.network_check.specs.Looks.{AreSeen, IsChartLook, IsChartText, IsSettings, IsSettingsText, SeesRow};
 
+use crate::documents::{Parsed, read_document};
 use dom_base::{As, Bytes, List, NoMemory, Text};
 use dom_edge::{Store, StoreError};
 use network_files::{FileError, SETTINGS_MAX, TOPOLOGY_MAX, topology_of};
 use plant_text::{ElementRow, NetError, NetFault, Network, read_network};
 use std::alloc::Global;
 use te_links::Topology;
+use toml::Table;
 
 /// The text of a topology, and what it says.
 #[derive(Drop)]
@@ -36,24 +41,41 @@ pub struct Seen {
     pub look: Look,
 }
 
-/// What the file of the settings was found to be, with its text where there is one.
+/// What the file of the settings was found to be.
 #[derive(Drop)]
 pub enum Settings {
+    /// The text, and the network that it gives.
     Sound(Bytes, Network),
-    Faulty(Bytes, NetFault),
+    /// The text, its document, and the first rule that it breaks.
+    Faulty(Bytes, Table, NetFault),
+    /// The text is no document, from this line on.
+    NoDocument(u32),
+    /// The read failed, or no file has the name.
     Unread,
     TooLong,
 }
 
 // ---- settings
 
-fn settings_in(alloc: Global, text: Bytes) -> Result<Settings, NoMemory>
+// The settings of a text that has this document.
+fn settings_of(alloc: Global, text: Bytes, root: Table) -> Result<Settings, NoMemory>
+    requires document { document text ≡ Some (table_view root) }
     ensures { IfOk result (IsSettingsText text) }
 {
     match read_network(alloc, text.as_slice()) {
         Ok(network) => Ok(Settings::Sound(text, network)),
-        Err(NetError::Fault(fault)) => Ok(Settings::Faulty(text, fault)),
+        Err(NetError::Fault(fault)) => Ok(Settings::Faulty(text, root, fault)),
         Err(NetError::NoMemory) => Err(NoMemory),
+    }
+}
+
+fn settings_in(alloc: Global, text: Bytes) -> Result<Settings, NoMemory>
+    requires short { length text ≤ settings_max }
+    ensures { IfOk result (IsSettingsText text) }
+{
+    match read_document(alloc, text.as_slice())? {
+        Parsed::Document(root) => settings_of(alloc, text, root),
+        Parsed::NoneAt(line) => Ok(Settings::NoDocument(line)),
     }
 }
 

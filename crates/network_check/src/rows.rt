@@ -5,22 +5,26 @@ ghost use Rattle.std.specs.Option.{option_copied};
 ghost use Rattle.std.specs.Str.Lines.{lines as lines_of};
 ghost use Rattle.toml.specs.Data.{get_member};
 ghost use Rattle.toml.specs.View.{items_view, table_view, view};
-ghost use Rattle.network_check.specs.Columns.{column, columns_text, field_text, is_column, items_text, kind_text, labelled_text, lack_text, member_text, name_in, row_label, row_text, rows_text, sheet_of, unknown_in, unknown_text, value_text};
+ghost use Rattle.network_check.specs.Sheets.{sheet_of};
+ghost use Rattle.network_check.specs.Columns.{column, columns_text, field_text, is_column, items_text, kind_text, labelled_text, lack_text, member_text, name_in, others_text, row_label, row_text, rows_text, unknown_in, unknown_text, value_text};
 
 use crate::fields::{Field, is_needed, key_of, kind_of};
 use crate::kinds::{Kind, fits, kind_words};
+use crate::pairs::tell_pairs;
 use crate::places::{Page, key_line, row_line, top_line};
 use crate::told::{Piece, tell, write_pieces};
 use dom_base::NoMemory;
 use std::alloc::Global;
 use toml::{Table, Value};
 
-/// The rows of a table of settings: the header of a row, none for the keys beside the tables, and what a row is called.
+/// The rows of a table of settings: the header of a row, none for the keys beside the tables; what a row is called; and whether
+/// they are outside peers.
 #[derive(Clone, Copy)]
 pub struct Rows<'a> {
     pub page: Page<'a>,
     pub header: &'a [u8],
     pub name: &'a [u8],
+    pub are_peers: bool,
 }
 
 /// The value of a key.
@@ -214,7 +218,28 @@ fn tell_unknown<'x>(
     }
 }
 
-/// The keys of a table: each that lacks or has a value that it may not have, and the first that is not known.
+// The first key that is not known; and of a peer the keys that do not go together.
+fn tell_others(
+    rows: &Rows<'_>,
+    index: usize,
+    label: &[u8],
+    table: &Table,
+    fields: &[Field],
+    into: &mut Vec<u8>,
+) -> Result<(), NoMemory>
+    requires short { length (lines_of (sheet_of rows.now).text) < 2 ^ 32 }
+    ensures { OnOk result (into.new.items ≡ into.old.items ++ others_text (sheet_of rows.now) index label.now (map column fields.now) (table_view table.now)) }
+{
+    tell_unknown(rows, index, label, table, fields, into)?;
+    if rows.are_peers {
+        tell_pairs(rows, index, label, table, into)
+    } else {
+        Ok(())
+    }
+}
+
+/// The keys of a table: each that lacks or has a value that it may not have, the first that is not known, and of a peer those that
+/// do not go together.
 pub(crate) fn tell_table(
     rows: &Rows<'_>,
     index: usize,
@@ -227,7 +252,7 @@ pub(crate) fn tell_table(
     ensures { OnOk result (into.new.items ≡ into.old.items ++ row_text (sheet_of rows.now) index label.now (map column fields.now) (table_view table.now)) }
 {
     tell_fields(rows, index, label, table, fields, into)?;
-    tell_unknown(rows, index, label, table, fields, into)
+    tell_others(rows, index, label, table, fields, into)
 }
 
 // ---- the rows of a table

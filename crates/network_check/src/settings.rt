@@ -2,7 +2,6 @@
 ghost use Rattle.std.specs.Prelude.{◌≡◌, ◌++◌, ◌<◌, ◌^◌, IfOk, OnOk, length, option_map};
 ghost use Rattle.std.specs.Str.Lines.{lines as lines_of};
 ghost use Rattle.toml.specs.View.{table_view, view};
-ghost use Rattle.plant_text.specs.Reads.{document};
 ghost use Rattle.network_check.specs.Faulty.{deny_text, element_text, faulty_text, first_line, header, line_at, link_text, name_at, parent_link_text, parent_text, parent_value_text, peer_text, row_fault, settings_fault, tables_text, top_text};
 
 use crate::faults::fault_words;
@@ -13,8 +12,7 @@ use crate::told::{Piece, tell, write_pieces};
 use dom_base::NoMemory;
 use plant_text::NetFault;
 use std::alloc::Global;
-use std::str::from_utf8;
-use toml::{Table, Value, table_from_str};
+use toml::{Table, Value};
 
 // ---- tables
 
@@ -31,6 +29,7 @@ fn tell_elements(
         page: *page,
         header: b"[[element]]",
         name: b"element",
+        are_peers: false,
     };
     tell_rows(alloc, &rows, value_at(root, "element"), &ELEMENT, into)
 }
@@ -48,6 +47,7 @@ fn tell_links(
         page: *page,
         header: b"[[link]]",
         name: b"link",
+        are_peers: false,
     };
     tell_rows(alloc, &rows, value_at(root, "link"), &LINK, into)
 }
@@ -65,6 +65,7 @@ fn tell_peers(
         page: *page,
         header: b"[[peer]]",
         name: b"peer",
+        are_peers: true,
     };
     tell_rows(alloc, &rows, value_at(root, "peer"), &PEER, into)
 }
@@ -82,6 +83,7 @@ fn tell_denials(
         page: *page,
         header: b"[[deny]]",
         name: b"deny",
+        are_peers: false,
     };
     tell_rows(alloc, &rows, value_at(root, "deny"), &DENIAL, into)
 }
@@ -99,6 +101,7 @@ fn tell_parent_links(
         page: *page,
         header: b"[[parent.link]]",
         name: b"parent.link",
+        are_peers: false,
     };
     tell_rows(alloc, &rows, value_at(parent, "link"), &PARENT_LINK, into)
 }
@@ -116,6 +119,7 @@ fn tell_parent_table(
         page: *page,
         header: b"[parent]",
         name: b"parent",
+        are_peers: false,
     };
     tell_table(&rows, 0, b"parent", parent, &PARENT, into)?;
     tell_parent_links(alloc, page, parent, into)
@@ -153,6 +157,7 @@ fn tell_top(page: &Page<'_>, root: &Table, into: &mut Vec<u8>) -> Result<(), NoM
         page: *page,
         header: b"",
         name: b"settings",
+        are_peers: false,
     };
     tell_table(&rows, 0, b"settings", root, &TOP, into)
 }
@@ -310,40 +315,17 @@ fn tell_fault(
 
 // ---- the whole
 
-// The document of a text, where it is one.
-fn document_of(alloc: Global, text: &[u8]) -> Result<Option<Table>, NoMemory>
-    ensures { IfOk result (λ root. option_map (λ t. table_view t) root ≡ document text.now) }
-{
-    let Ok(words) = from_utf8(text) else {
-        return Ok(None);
-    };
-    match table_from_str(alloc, words) {
-        Ok(table) => Ok(Some(table)),
-        Err(error) => {
-            if error.is_memory() {
-                Err(NoMemory)
-            } else {
-                Ok(None)
-            }
-        }
-    }
-}
-
-/// Tells of settings at fault: the first rule that they break, and then the keys of all tables.
+/// Tells of settings at fault, which are this document: the first rule that they break, and then the keys of all tables.
 pub(crate) fn tell_faulty(
     alloc: Global,
     page: &Page<'_>,
+    root: &Table,
     fault: &NetFault,
     into: &mut Vec<u8>,
 ) -> Result<(), NoMemory>
     requires short { length (lines_of page.now.text.now) < 2 ^ 32 }
-    ensures { OnOk result (into.new.items ≡ into.old.items ++ faulty_text page.now.file.now page.now.text.now fault.now (document page.now.text.now)) }
+    ensures { OnOk result (into.new.items ≡ into.old.items ++ faulty_text page.now.file.now page.now.text.now fault.now (table_view root.now)) }
 {
-    match document_of(alloc, page.text)? {
-        Some(root) => {
-            tell_fault(alloc, page, &root, fault, into)?;
-            tell_tables(alloc, page, &root, into)
-        }
-        None => tell(page.file, 0, &[Piece::Text(fault_words(fault))], into),
-    }
+    tell_fault(alloc, page, root, fault, into)?;
+    tell_tables(alloc, page, root, into)
 }

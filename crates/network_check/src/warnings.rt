@@ -168,11 +168,7 @@ fn warn_of_peer(
 }
 
 #[tactic(auto, using(crate::proofs::Peers::peers_next))]
-fn warn_of_peers(
-    page: &Page<'_>,
-    parts: &NetworkParts,
-    into: &mut Vec<u8>,
-) -> Result<(), NoMemory>
+fn warn_of_peers(page: &Page<'_>, parts: &NetworkParts, into: &mut Vec<u8>) -> Result<(), NoMemory>
     requires short { length (lines_of page.now.text.now) < 2 ^ 32 }
     ensures { OnOk result (into.new.items ≡ into.old.items ++ peers_warnings page.now.file.now page.now.text.now parts.now.watch [] parts.now.peers) }
 {

@@ -1,5 +1,5 @@
 -- How a run over a network ends, from how its parts ended.
-use Rattle.std.proofs.Common.{◌≡◌, ◌≤◌, ℕ, true, List, length, Some, None, inr, sym, subst}
+use Rattle.std.proofs.Common.{◌≡◌, ◌≢◌, ◌≤◌, ℕ, true, List, length, Some, None, inr, refl, sym, subst}
 use Rattle.std.specs.declared.option.Option.{Option}
 use Rattle.std.specs.Io.KnownBytes.{Appends}
 use Rattle.client_laws.specs.plant_model.Types.{As, NetFault, NetworkParts}
@@ -169,6 +169,20 @@ bulk_told w n tally text counted is (status.Refuted place) fin = absurd fin
 bulk_told w n tally text counted is (status.TooLarge name) fin = absurd fin
 
 -- ---- what is told of a network's files
+
+-- the output failed while it was written
+pub report_cut : (before after : Option (List ℕ)) (counts : ℕ × ℕ) (r : Report) (s : Status) → s ≢ status.Ok → IsFinished before after counts r.text s → IsReported before after counts r s
+report_cut before after counts r status.Ok ended fin = absurd (ended refl)
+report_cut before after counts r status.Usage ended fin = absurd fin
+report_cut before after counts r status.ReadFault ended fin = absurd fin
+report_cut before after counts r status.WriteFault ended fin = fin
+report_cut before after counts r (status.BadNetwork file line fault) ended fin = absurd fin
+report_cut before after counts r status.Faulty ended fin = absurd fin
+report_cut before after counts r (status.BadLine line) ended fin = absurd fin
+report_cut before after counts r status.NoMemory ended fin = absurd fin
+report_cut before after counts r (status.BadRequest why) ended fin = absurd fin
+report_cut before after counts r (status.Refuted place) ended fin = absurd fin
+report_cut before after counts r (status.TooLarge name) ended fin = absurd fin
 
 pub check_told : (w : World) (net : List ℕ) (r : Report) → IsChecked w net r → (s : Status) → IsReported w.before w.after w.output_faults r s → CheckEnds w net s
 check_told w net r checked status.Ok is = (r, checked, is.0, is.1)

@@ -10,12 +10,19 @@ use network_check::{Report, check};
 use std::alloc::Global;
 
 // Writes what is told.
+#[tactic(auto, using(crate::proofs::NetworkEnds::report_cut))]
 fn write<K: Sink>(out: &mut K, report: &Report) -> Status
     ensures { IsReported (K.written out.old) (K.written out.new) (K.faults out.old, K.faults out.new) report.now result }
 {
     match finish(out, report.text.as_slice()) {
-        Status::Ok if report.is_faulty => Status::Faulty,
-        status => status,
+        Status::Ok => {
+            if report.is_faulty {
+                Status::Faulty
+            } else {
+                Status::Ok
+            }
+        }
+        cut => cut,
     }
 }
 

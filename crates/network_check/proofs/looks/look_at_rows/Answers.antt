@@ -2,8 +2,8 @@ use Rattle.std.proofs.Common.{◌≡◌, ◌∙◌, ◌+◌, ◌++◌, ◌∷◌
 use Rattle.std.proofs.lemmas.List.{take_more}
 use Rattle.dom_edge.specs.Stores.{Files}
 use Rattle.plant_text.specs.declared.settings.ElementRow.{ElementRow}
-use Rattle.network_check.specs.Looks.{SeesRow}
-use Rattle.network_check.proofs.Looking.{AreSeenSo, row_seen}
+use Rattle.network_check.specs.Looks.{AreSeen, SeesRow}
+use Rattle.network_check.proofs.Looking.{row_seen}
 use Rattle.network_check.proofs.looks.look_at_rows.Goals as goal
 
 pub loop-i-preserved : goal.loop-i-preserved
@@ -17,13 +17,10 @@ loop-i-preserved g c =
     let b = g.S.Store.faults c.loop-i.store in
     let d = g.S.Store.faults c.look_at_row.new.store in
     let sees : SeesRow files row.own row.topology (b, d) c.loop-i.seen c.look_at_row.new.seen = subst (λ (fs : Option Files). SeesRow fs row.own row.topology (b, d) c.loop-i.seen c.look_at_row.new.seen) so_far.files step.sees in
-    let so : AreSeenSo files (take c.loop-i.i rows) (a, b) c.loop-i.seen = record { are_named = so_far.are_named; are_looks = so_far.are_looks } in
-    let next = row_seen files (take c.loop-i.i rows) row a b d c.loop-i.seen c.look_at_row.new.seen so_far.later step.later so sees in
+    let next = row_seen files (take c.loop-i.i rows) row a b d c.loop-i.seen c.look_at_row.new.seen so_far.later step.later so_far.seen sees in
     let more : take (c.loop-i.i + 1) rows ≡ take c.loop-i.i rows ++ row ∷ [] = take_more rows c.loop-i.i row c.loop-i-test.true ∙ ap (λ (r : ElementRow). take c.loop-i.i rows ++ r ∷ []) (sym c.index-rows-i.is) in
-    let whole = subst (λ (rs : List ElementRow). AreSeenSo files rs (a, d) c.look_at_row.new.seen) (sym more) next in
     record {
-      are_named = whole.are_named;
-      are_looks = whole.are_looks;
+      seen = subst (λ (rs : List ElementRow). AreSeen files rs (a, d) c.look_at_row.new.seen) (sym more) next;
       files = step.files ∙ so_far.files;
       later = omega (arith, so_far.later, step.later);
     }

@@ -1,6 +1,7 @@
 use Rattle.std.proofs.Common.{◌≡◌, ◌++◌, drop, map}
 use Rattle.toml.specs.View.{items_view}
-use Rattle.network_check.specs.Columns.{column, items_text, sheet_of}
+use Rattle.network_check.specs.Columns.{column, items_text}
+use Rattle.network_check.specs.Sheets.{sheet_of}
 use Rattle.network_check.proofs.rows.tell_items.Given as goal
 
 abbrev pub invariant-loop-i : goal.invariant-loop-i
