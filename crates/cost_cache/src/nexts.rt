@@ -11,7 +11,7 @@ ghost use Rattle.cost_cache.specs.Hops.{AreEnds, IsTightNext, IsFirstNext, IsNex
 use crate::ends::ends_of;
 use crate::kept::Next;
 use dom_base::{Addr, Label, NoMemory, Query, Seed};
-use path_constraints::{allows, weight};
+use path_constraints::{Prepared, weight};
 use path_search::Labels;
 use std::alloc::Global;
 use te_links::Links;
@@ -20,7 +20,7 @@ use te_links::Links;
 // node's label. Most links are ruled out by the label of their end alone.
 fn tight_next<'a, G: Links<'a>>(
     links: &mut G,
-    query: &Query,
+    prepared: &Prepared<'_>,
     labels: &Labels,
     place: u32,
     _node: Addr,
@@ -28,13 +28,14 @@ fn tight_next<'a, G: Links<'a>>(
     index: u32,
 ) -> Option<Next>
     requires rules { IsTopology (G.rows links.old) }
-    requires labels { AreOpen (G.rows links.old) query.now labels.now }
-    requires node { AdmitsNode (G.rows links.old) query.now _node }
+    requires labels { AreOpen (G.rows links.old) prepared.now labels.now }
+    requires node { AdmitsNode (G.rows links.old) prepared.now _node }
     requires place { slice_get (G.rows links.old).nodes place ≡ Some _node }
     requires begins { LinkBeginsAt (G.rows links.old).nodes (G.rows links.old).links place index }
-    ensures next { MatchOption result (IsLoose (G.rows links.old) query.now labels.now _node label.now index) (IsTightNext (G.rows links.old) query.now labels.now _node label.now index) }
+    ensures next { MatchOption result (IsLoose (G.rows links.old) prepared.now labels.now _node label.now index) (IsTightNext (G.rows links.old) prepared.now labels.now _node label.now index) }
     ensures same { G.rows links.new ≡ G.rows links.old }
 {
+    let query = prepared.query();
     let (link, head) = links.link_with_head(index);
     let Some(rest) = labels.at(head) else {
         return None;
@@ -44,7 +45,7 @@ fn tight_next<'a, G: Links<'a>>(
     if part < whole
         && rest.exit == label.exit
         && whole - part == weight(link, query.metric)
-        && allows(query, link)
+        && prepared.allows(link)
     {
         Some(Next {
             far: link.far,
@@ -58,22 +59,22 @@ fn tight_next<'a, G: Links<'a>>(
 // The first tight link from the node at a place.
 fn first_next<'a, G: Links<'a>>(
     links: &mut G,
-    query: &Query,
+    prepared: &Prepared<'_>,
     labels: &Labels,
     place: u32,
     node: Addr,
     label: &Label,
 ) -> Option<Next>
-    requires labels { AreOpen (G.rows links.old) query.now labels.now }
-    requires node { AdmitsNode (G.rows links.old) query.now node }
+    requires labels { AreOpen (G.rows links.old) prepared.now labels.now }
+    requires node { AdmitsNode (G.rows links.old) prepared.now node }
     requires place { slice_get (G.rows links.old).nodes place ≡ Some node }
-    ensures next { IsFirstNext (G.rows links.old) query.now labels.now node label.now result }
+    ensures next { IsFirstNext (G.rows links.old) prepared.now labels.now node label.now result }
     ensures same { G.rows links.new ≡ G.rows links.old }
     ensures order { IsInOrder (G.rows links.old) }
 {
     let leaving = links.links_from(place);
     for index in leaving {
-        if let Some(next) = tight_next(links, query, labels, place, node, label, *index) {
+        if let Some(next) = tight_next(links, prepared, labels, place, node, label, *index) {
             return Some(next);
         }
     }
@@ -83,16 +84,16 @@ fn first_next<'a, G: Links<'a>>(
 // The next link of the node at a place, if it has a label and its segment goes on.
 fn next_of<'a, G: Links<'a>>(
     links: &mut G,
-    query: &Query,
+    prepared: &Prepared<'_>,
     _seeds: &[Seed],
     labels: &Labels,
     ends: &[bool],
     place: u32,
 ) -> Option<Next>
-    requires labels { AreLabels (G.rows links.old) query.now _seeds.now labels.now }
+    requires labels { AreLabels (G.rows links.old) prepared.now _seeds.now labels.now }
     requires ends { AreEnds (G.rows links.old) _seeds.now labels.now ends.now }
     requires place { place < length (G.rows links.old).nodes }
-    ensures next { IsNextAt (G.rows links.old) query.now _seeds.now labels.now place result }
+    ensures next { IsNextAt (G.rows links.old) prepared.now _seeds.now labels.now place result }
     ensures same { G.rows links.new ≡ G.rows links.old }
 {
     if ends[place as usize] {
@@ -102,7 +103,7 @@ fn next_of<'a, G: Links<'a>>(
         return None;
     };
     let node = links.node_at(place);
-    first_next(links, query, labels, place, node, &label)
+    first_next(links, prepared, labels, place, node, &label)
 }
 
 /// The next link of the chosen segment of each node with a label: of the links from the node, each
@@ -119,9 +120,10 @@ pub(crate) fn nexts_of<'a, G: Links<'a>>(
     ensures same { G.rows links.new ≡ G.rows links.old }
 {
     let ends = ends_of(alloc, links, seeds, labels)?;
+    let prepared = Prepared::of(alloc, query)?;
     let mut nexts = Vec::new(alloc);
     for place in 0..links.node_count() {
-        nexts.push(next_of(links, query, seeds, labels, &ends, place))?;
+        nexts.push(next_of(links, &prepared, seeds, labels, &ends, place))?;
     }
     Ok(nexts)
 }

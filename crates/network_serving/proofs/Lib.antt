@@ -5,6 +5,7 @@ mod Runs
 mod Opening
 mod Repeats
 mod Starts
+mod WatchTasks
 pub mod WatchTurns
 pub mod Workings
 pub mod CrossingParts

@@ -256,11 +256,11 @@ pub learnt_all : (old new shown : List Shown) → old ≡ [] → (new ≡ old) �
 learnt_all old new shown none (inl same) front = empty_front shown new (same ∙ none) front
 learnt_all old new shown none (inr same) front = same
 
-pub all_ready : (files before : Option Files) (n : NetworkParts) (desk : Stand) (shown known : List Shown) (list : Book) → before ≡ files → IsBehind before n desk shown → known ≡ shown → IsReady files n (server desk shown known list)
-all_ready files before n desk shown known list same behind learnt =
+pub all_ready : (files before : Option Files) (n : NetworkParts) (desk : Stand) (shown : List Shown) (list : Book) → before ≡ files → IsBehind before n desk shown → IsReady files n (server desk shown list)
+all_ready files before n desk shown list same behind =
     let b : IsBehind files n desk shown = subst (λ (fs : Option Files). IsBehind fs n desk shown) same behind in
-    record { held = b.0; opened = b.1; loaded = b.2; learnt = learnt }
+    record { held = b.0; opened = b.1; loaded = b.2 }
 
 -- a desk at a lock that was just opened has made no turn
-pub ready_is_fresh : (files : Option Files) (n : NetworkParts) (desk : Stand) (shown known : List Shown) (list : Book) → IsReady files n (server desk shown known list) → IsFresh desk
-ready_is_fresh files n desk shown known list ready = ap split_from ready.opened ∙ sym ready.opened
+pub ready_is_fresh : (files : Option Files) (n : NetworkParts) (desk : Stand) (shown : List Shown) (list : Book) → IsReady files n (server desk shown list) → IsFresh desk
+ready_is_fresh files n desk shown list ready = ap split_from ready.opened ∙ sym ready.opened

@@ -7,26 +7,26 @@ use Rattle.plant_network.specs.plant_model.declared.event.Event.{Event}
 use Rattle.plant_network.specs.plant_model.Events.{Answered}
 use Rattle.plant_network.specs.plant_model.Plant.{Entry, Plant, Run}
 use Rattle.plant_network.specs.plant_model.RealWire.{wire}
-use Rattle.plant_network.specs.Histories.{done_by, events_of}
+use Rattle.plant_network.specs.Histories.{AreGiven, done_by, events_of}
 use Rattle.plant_network.specs.Topologies.{Held, whole}
 use Rattle.plant_network.specs.Turns.{Admits, Allowed, left_by}
 use Rattle.plant_network.proofs.HistoryLemmas.{histories_are_runs}
 use Rattle.plant_text.specs.declared.settings.NetworkParts.{NetworkParts}
-use Rattle.turn_desk.specs.Desks.{Stand}
+use Rattle.turn_desk.specs.Desks.{IsAtLock, Stand}
 use Rattle.desk_laws.specs.Connections.{at_peer, is_at}
 use Rattle.desk_laws.proofs.Closed.{put_is_said_blindly}
 use Rattle.desk_laws.proofs.Streams.{filter_on}
 use Rattle.desk_laws.proofs.Written.{written_was_put}
 use Rattle.network_serving.specs.Bases.{IsReady, Server}
 use Rattle.network_serving.specs.Loaded.{IsLoaded, Load, load_event, load_events}
-use Rattle.network_serving.specs.Runs.{IsAtLock, IsRun}
+use Rattle.network_serving.specs.Runs.{IsRun}
 
 -- loads open, shut and drain nothing
 loads_quiet : (i : ℕ) (ls : List Load) → at_peer i (load_events ls) ≡ []
 loads_quiet i [] = refl
 loads_quiet i (l ∷ ls) = filter_on (is_at i) (load_events ls) (load_event l ∷ []) ∙ ap (λ (es : List (Event × Answered)). es ++ []) (loads_quiet i ls)
 
-module _ (files : Option Files) (n : NetworkParts) (x : Server) (ready : IsReady files n x) (s : Stand) (at : IsAtLock x.desk s) where
+module _ (files : Option Files) (n : NetworkParts) (x : Server) (ready : IsReady files n x) (s : Stand) (at : IsAtLock x.desk s) (given : AreGiven s.seen) where
   abbrev held : Held
   held = ready.held
 
@@ -45,7 +45,7 @@ module _ (files : Option Files) (n : NetworkParts) (x : Server) (ready : IsReady
   pub is_run : IsRun n loaded.entries s
   is_run =
       let run : Run wire (whole held).network loaded.entries (whole held).state = subst (λ (m : NetworkParts). Run wire m loaded.entries (whole held).state) (sym loaded.network) loaded.run in
-      let on = histories_are_runs (whole held) loaded.entries s.seen at.given run legal in
+      let on = histories_are_runs (whole held) loaded.entries s.seen given run legal in
       let goes : Run wire n (on.0 ++ loaded.entries) left = subst (λ (m : NetworkParts). Run wire m (on.0 ++ loaded.entries) left) loaded.network on.1 in
       record {
         newer = on.0;

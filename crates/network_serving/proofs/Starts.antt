@@ -1,6 +1,6 @@
 -- Causes of a start, from its parts.
 use Rattle.std.proofs.Common.{◌≡◌, ◌∙◌, ◌⊎◌, inl, inr, ◌+◌, ◌-◌, ◌^◌, ◌≤◌, ◌<◌, ℕ, zero, suc, min, List, [], ◌∷◌, ◌++◌, length, map, ap, refl, sym, subst, arith, append_assoc, Option, Some, None}
-use Rattle.std.specs.Prelude.{slice_get, option_to_list}
+use Rattle.std.specs.Prelude.{slice_get}
 use Rattle.std.proofs.lemmas.List.{length-map}
 use Rattle.dom_base.specs.declared.names.As.{As}
 use Rattle.dom_edge.specs.Causes.{counted_on, next_count}
@@ -10,14 +10,14 @@ use Rattle.network_files.specs.Settings.{HasNetwork}
 use Rattle.plant_text.specs.declared.settings.NetworkParts.{NetworkParts}
 use Rattle.plant_text.specs.declared.settings.PeerRow.{PeerRow}
 use Rattle.server_loops.specs.Serving.{TellsTime}
-use Rattle.turn_desk.specs.Desks.{Stand, desked_of}
+use Rattle.turn_desk.specs.Desks.{IsAtLock, Stand, desked_of}
 use Rattle.network_serving.specs.declared.duties.Duty.{Duty}
 use Rattle.network_serving.specs.declared.duties.Duty.TheVariants.{Operate}
 use Rattle.network_serving.specs.Duties.{duties_of, first_duties, watch_duties}
 use Rattle.network_serving.specs.Bases.{Base, Desk, IsReady, Operator, Server, bases_of, watch_bases}
 use Rattle.network_serving.specs.Ends.{Ends, IsServed, RoseBy, World}
 use Rattle.network_serving.specs.Files.{IsLoadEnd, IsNamedEnd}
-use Rattle.network_serving.specs.Ports.{AreApart, ports_of}
+use Rattle.network_serving.specs.Ports.{AreApart, ports_of, watch_ports}
 use Rattle.network_serving.specs.Starting.{Called, IsClosed, IsPlanEnd, IsStartEnd, IsUnlistened, IsUnstarted, called, peer_ports}
 use Rattle.network_serving.specs.declared.served.Served.{Served}
 use Rattle.network_serving.specs.declared.served.Served.TheVariants as served
@@ -50,18 +50,18 @@ module _ (n : NetworkParts) where
   front : (x : Called) (port : ℕ) → IsUnlistened (peer_ports n.peers) x port → IsUnlistened (ports_of n) x port
   front x port is = record {
     place = is.place;
-    at_place = get_front (peer_ports n.peers) (option_to_list n.watch) is.place port is.at_place;
+    at_place = get_front (peer_ports n.peers) (watch_ports n.watch) is.place port is.at_place;
     calls = is.calls;
     failed = is.failed;
     at_port = is.at_port;
   }
 
-  behind : (a b c d e f at port : ℕ) → RoseBy (length n.peers) (a, b) → d ≤ e → IsUnlistened (option_to_list n.watch) (called (b, c) (e, f) at) port → IsUnlistened (ports_of n) (called (a, c) (d, f) at) port
+  behind : (a b c d e f at port : ℕ) → RoseBy (length n.peers) (a, b) → d ≤ e → IsUnlistened (watch_ports n.watch) (called (b, c) (e, f) at) port → IsUnlistened (ports_of n) (called (a, c) (d, f) at) port
   behind a b c d e f at port calls less is =
       let long : length (peer_ports n.peers) ≡ length n.peers = length-map n.peers (λ (row : PeerRow). row.port) in
       record {
         place = length (peer_ports n.peers) + is.place;
-        at_place = get_behind (peer_ports n.peers) (option_to_list n.watch) is.place ∙ is.at_place;
+        at_place = get_behind (peer_ports n.peers) (watch_ports n.watch) is.place ∙ is.at_place;
         calls = is.calls ∙ ap (counted_on (is.place + 1)) calls ∙ sym (counted_behind (is.place + 1) (length n.peers) a) ∙ ap (λ (k : ℕ). counted_on k a) (let same : is.place + 1 + length n.peers ≡ length (peer_ports n.peers) + is.place + 1 = omega (arith, long) in same);
         failed = rose_from d e f less is.failed;
         at_port = is.at_port;
@@ -77,21 +77,18 @@ module _ (n : NetworkParts) where
   planned_end x faults (served.BadNetwork file line fault) is = absurd is
   planned_end x faults served.NoThread is = absurd is
 
-  -- watchers can't be answered
-  watched_end : (a b c d e f at g h i : ℕ) (s : Served) → RoseBy (length n.peers) (a, b) → d ≤ e → g ≤ h → IsStartEnd (option_to_list n.watch) (called (b, c) (e, f) at) (h, i) s →
-      IsStartEnd (ports_of n) (called (a, c) (d, f) at) (g, i) s
-  watched_end a b c d e f at g h i (served.NoPort port) calls less fewer is = behind a b c d e f at port calls less is
-  watched_end a b c d e f at g h i served.NoThread calls less fewer is = rose_from g h i fewer is
-  watched_end a b c d e f at g h i served.NoMemory calls less fewer is = tt
-  watched_end a b c d e f at g h i served.Turns calls less fewer is = absurd is
-  watched_end a b c d e f at g h i served.ReadFault calls less fewer is = absurd is
-  watched_end a b c d e f at g h i (served.TooLarge file) calls less fewer is = absurd is
-  watched_end a b c d e f at g h i (served.BadNetwork file line fault) calls less fewer is = absurd is
+  -- those who answer watchers can't be planned
+  watched : (a b c d e f at g : ℕ) (s : Served) → RoseBy (length n.peers) (a, b) → d ≤ e → IsPlanEnd (watch_ports n.watch) (called (b, c) (e, f) at) s → IsStartEnd (ports_of n) (called (a, c) (d, f) at) (g, g) s
+  watched a b c d e f at g (served.NoPort port) calls less is = behind a b c d e f at port calls less is
+  watched a b c d e f at g served.NoMemory calls less is = tt
+  watched a b c d e f at g served.Turns calls less is = absurd is
+  watched a b c d e f at g served.ReadFault calls less is = absurd is
+  watched a b c d e f at g (served.TooLarge file) calls less is = absurd is
+  watched a b c d e f at g (served.BadNetwork file line fault) calls less is = absurd is
+  watched a b c d e f at g served.NoThread calls less is = absurd is
 
-  pub watch_end : (watch : Option ℕ) (a b c d e f at g h i : ℕ) (s : Served) → watch ≡ n.watch → RoseBy (length n.peers) (a, b) → d ≤ e → g ≤ h → IsStartEnd (option_to_list watch) (called (b, c) (e, f) at) (h, i) s →
-      IsStartEnd (ports_of n) (called (a, c) (d, f) at) (g, i) s
-  watch_end watch a b c d e f at g h i s is calls less fewer ends =
-      watched_end a b c d e f at g h i s calls less fewer (subst (λ (w : Option ℕ). IsStartEnd (option_to_list w) (called (b, c) (e, f) at) (h, i) s) is ends)
+  pub watched_end : (watch : Option ℕ) (a b c d e f at g : ℕ) (s : Served) → watch ≡ n.watch → RoseBy (length n.peers) (a, b) → d ≤ e → IsPlanEnd (watch_ports watch) (called (b, c) (e, f) at) s → IsStartEnd (ports_of n) (called (a, c) (d, f) at) (g, g) s
+  watched_end watch a b c d e f at g s is calls less ends = watched a b c d e f at g s calls less (subst (λ (w : Option ℕ). IsPlanEnd (watch_ports w) (called (b, c) (e, f) at) s) is ends)
 
 -- ---- threads
 
@@ -119,12 +116,6 @@ want_unstarted faults s is = subst (IsUnstarted faults) (sym is) tt
 pub want_start : (ports : List ℕ) (x : Called) (faults : ℕ × ℕ) (s : Served) → s ≡ served.NoMemory → IsStartEnd ports x faults s
 want_start ports x faults s is = subst (IsStartEnd ports x faults) (sym is) tt
 
--- the port of watchers can't be listened at
-pub watch_closed : (port a b c d at : ℕ) (faults : ℕ × ℕ) (s : Served) → b ≡ next_count a → IsClosed port (c, d) at s → IsStartEnd (port ∷ []) (called (a, b) (c, d) at) faults s
-watch_closed port a b c d at faults s next closed =
-    subst (IsStartEnd (port ∷ []) (called (a, b) (c, d) at) faults) (sym closed.is)
-    (record { place = 0; at_place = refl; calls = next; failed = closed.failed; at_port = closed.at_port })
-
 -- ---- duties
 
 pub duties_on : (n : NetworkParts) (old all with last : List Duty) → all ≡ old ++ first_duties n → with ≡ all ++ Operate ∷ [] → last ≡ with ++ watch_duties n.watch → last ≡ old ++ duties_of n
@@ -134,15 +125,15 @@ duties_on n old all with last first second third =
     ∙ append_assoc (old ++ first_duties n) (Operate ∷ []) (watch_duties n.watch)
     ∙ append_assoc old (first_duties n) (Operate ∷ watch_duties n.watch)
 
-pub bases_on : (n : NetworkParts) (x : Server) (old all with last : List Base) → all ≡ old ++ map (λ (d : Duty). Desk x.desk) (first_duties n) → with ≡ all ++ Operator x.desk n x.shown x.list ∷ [] → last ≡ with ++ watch_bases x.known x.list n.watch →
+pub bases_on : (n : NetworkParts) (x : Server) (old all with last : List Base) → all ≡ old ++ map (λ (d : Duty). Desk x.desk) (first_duties n) → with ≡ all ++ Operator x.desk n x.shown x.list ∷ [] → last ≡ with ++ watch_bases x.shown x.list n.watch →
     last ≡ old ++ bases_of n x
 bases_on n x old all with last first second third =
     let front : List Base = map (λ (d : Duty). Desk x.desk) (first_duties n) in
     let operator : Base = Operator x.desk n x.shown x.list in
     third
-    ∙ ap (λ (bs : List Base). bs ++ watch_bases x.known x.list n.watch) (second ∙ ap (λ (bs : List Base). bs ++ operator ∷ []) first)
-    ∙ append_assoc (old ++ front) (operator ∷ []) (watch_bases x.known x.list n.watch)
-    ∙ append_assoc old front (operator ∷ watch_bases x.known x.list n.watch)
+    ∙ ap (λ (bs : List Base). bs ++ watch_bases x.shown x.list n.watch) (second ∙ ap (λ (bs : List Base). bs ++ operator ∷ []) first)
+    ∙ append_assoc (old ++ front) (operator ∷ []) (watch_bases x.shown x.list n.watch)
+    ∙ append_assoc old front (operator ∷ watch_bases x.shown x.list n.watch)
 
 -- ---- all of it
 
@@ -172,8 +163,8 @@ module _ (w : World) (name : List ℕ) (turns : ℕ) where
     | inr network ↦ elim network.ends [ inl port' ↦ absurd port' | inr topology ↦ absurd (no_other_end w.files topology.row.own topology.row.topology w.store_faults w.failed_at served.NoThread (λ e. let no : ⊥ = cc in no) (λ n e. e) topology.ends) ]
   ]
 
-  pub all_served : (n : NetworkParts) (x : Server) → HasNetwork w.files name n → AreApart n → IsReady w.files n x → w.started.1 ≡ w.started.0 ++ duties_of n → w.bases.1 ≡ w.bases.0 ++ bases_of n x → RoseBy turns w.readings → (s : Stand) → w.told ≡ Some s → TellsTime turns (desked_of x.desk) (desked_of s) w.last.0 w.last.1 → IsServed w name turns
-  all_served n x has apart ready duties behind read s by tells = record { network = n; has = has; apart = apart; duties = duties; server = x; ready = ready; runs = λ s at. is_run w.files n x ready s at; behind = behind; read = read; told = s; by = by; tells = tells }
+  pub all_served : (n : NetworkParts) (x : Server) → HasNetwork w.files name n → AreApart n → IsReady w.files n x → w.started.1 ≡ w.started.0 ++ duties_of n → w.bases.1 ≡ w.bases.0 ++ bases_of n x → RoseBy turns w.readings → (s : Stand) → w.told ≡ Some s → IsAtLock x.desk s → TellsTime turns (desked_of x.desk) (desked_of s) w.last.0 w.last.1 → IsServed w name turns
+  all_served n x has apart ready duties behind read s by at tells = record { network = n; has = has; apart = apart; duties = duties; server = x; ready = ready; runs = λ s at given. is_run w.files n x ready s at given; behind = behind; read = read; told = s; by = by; at = at; tells = tells }
 
   pub start_ends : (n : NetworkParts) (s : Served) → HasNetwork w.files name n → IsStartEnd (ports_of n) (called w.port_calls w.port_faults w.failed_port) w.spawner_faults s → Ends w name turns s
   start_ends n (served.NoPort port) has is = record { network = n; has = has; place = is.place; at_place = is.at_place; called = is.calls; failed = is.failed; at_port = is.at_port }

@@ -14,7 +14,7 @@ use Rattle.network_serving.specs.declared.footing.Footing.{Footing}
 use Rattle.network_serving.specs.declared.footing.Footing.TheVariants as footing
 use Rattle.network_serving.specs.declared.tasks.Task.{Task}
 use Rattle.network_serving.specs.declared.tasks.Task.TheVariants as task
-use Rattle.network_serving.specs.Duties.{first_duties}
+use Rattle.network_serving.specs.Duties.{first_duties, watch_duties}
 use Rattle.network_serving.specs.Loaded.{IsLoaded}
 
 -- What a task stands on: a desk at a lock; a desk, settings, and what was shown, on which list; or what a watcher knows, of which list.
@@ -34,32 +34,29 @@ module _ {K F I O R : Type 0} where
   base_in (task.Carry links desk) = Desk (stand_of desk)
   base_in (task.Work index cache bench) = Desk (desk_of bench)
   base_in (task.Operate desk files network publisher input out) = Operator (stand_of desk) network (published publisher) (list_of publisher)
-  base_in (task.Watch rt watcher listener) = Watcher (known watcher) (list_at watcher)
+  base_in (task.Watch rt index watcher listener) = Watcher (known watcher) (list_at watcher)
 
 -- ---- a server
 
--- what all tasks of a server stand on: where each desk stands; what was shown, what the watcher knows of it, and of which list
+-- what all tasks of a server stand on: where each desk stands; and what was shown, of which list, which each watcher knows
 pub record Server : Type 0 where
   pub desk : Stand
   pub shown : List Shown
-  pub known : List Shown
   pub list : Book
 
-abbrev pub server : Stand → List Shown → List Shown → Book → Server
-server desk shown known list = record { desk = desk; shown = shown; known = known; list = list }
+abbrev pub server : Stand → List Shown → Book → Server
+server desk shown list = record { desk = desk; shown = shown; list = list }
 
 abbrev pub watch_bases : List Shown → Book → Option ℕ → List Base
-watch_bases known list None = []
-watch_bases known list (Some port) = Watcher known list ∷ []
+watch_bases known list watch = map (λ (d : Duty). Watcher known list) (watch_duties watch)
 
 -- those of its tasks, in the order of the duties
 abbrev pub bases_of : NetworkParts → Server → List Base
-bases_of n x = map (λ (d : Duty). Desk x.desk) (first_duties n) ++ Operator x.desk n x.shown x.list ∷ watch_bases x.known x.list n.watch
+bases_of n x = map (λ (d : Duty). Desk x.desk) (first_duties n) ++ Operator x.desk n x.shown x.list ∷ watch_bases x.shown x.list n.watch
 
 -- A lock was opened round a network of these settings, into which the topologies that they name had been loaded, and no turn had been
--- made. What was shown are these topologies, and the watcher knows them.
+-- made. What was shown are these topologies.
 pub record IsReady (files : Option Files) (n : NetworkParts) (x : Server) : Type 0 where
   pub held : Held
   pub opened : IsOpened held x.desk
   pub loaded : IsLoaded files n n.elements x.shown (whole held)
-  pub learnt : x.known ≡ x.shown

@@ -6,6 +6,7 @@ use Rattle.plant_text.specs.Names.{parent_as}
 use Rattle.plant_text.specs.Settings.{children}
 use Rattle.plant_text.specs.declared.settings.NetworkParts.{NetworkParts}
 use Rattle.plant_text.specs.declared.settings.PeerRow.{PeerRow}
+use Rattle.network_serving.specs.declared.duties.TheConstants.{WATCHERS}
 use Rattle.network_serving.specs.declared.duties.Duty.{Duty}
 use Rattle.network_serving.specs.declared.duties.Duty.TheVariants.{Port, Carry, Work, Operate, Watch}
 
@@ -30,10 +31,15 @@ abbrev pub work_duties : ℕ → ℕ → List Duty
 work_duties index zero = []
 work_duties index (suc n) = Work index ∷ work_duties (suc index) n
 
--- the port of watchers, where the settings have one
+-- so many that answer watchers at a port, the first of which has this index
+abbrev pub watches_at : ℕ → ℕ → ℕ → List Duty
+watches_at port index zero = []
+watches_at port index (suc n) = Watch port index ∷ watches_at port (suc index) n
+
+-- those that answer watchers, where the settings have a port of theirs
 abbrev pub watch_duties : Option ℕ → List Duty
 watch_duties None = []
-watch_duties (Some port) = Watch port ∷ []
+watch_duties (Some port) = watches_at port 0 WATCHERS
 
 -- the ports, the carrier and the workers
 abbrev pub first_duties : NetworkParts → List Duty

@@ -9,9 +9,10 @@ use Rattle.network_serving.specs.Bases.{Base, IsReady, Server, bases_of}
 use Rattle.network_serving.specs.Duties.{duties_of}
 use Rattle.network_serving.specs.Files.{IsLoadEnd}
 use Rattle.network_serving.specs.Ports.{AreApart, ports_of}
-use Rattle.network_serving.specs.Runs.{IsAtLock, IsRun}
+use Rattle.network_serving.specs.Runs.{IsRun}
 use Rattle.server_loops.specs.Serving.{TellsTime}
-use Rattle.turn_desk.specs.Desks.{Stand, desked_of}
+use Rattle.plant_network.specs.Histories.{AreGiven}
+use Rattle.turn_desk.specs.Desks.{IsAtLock, Stand, desked_of}
 use Rattle.network_serving.specs.declared.served.Served.{Served}
 use Rattle.network_serving.specs.declared.served.Served.TheVariants as served
 
@@ -47,7 +48,8 @@ pub record IsPortEnd (w : World) (name : List ℕ) (port : ℕ) : Type 0 where
   pub at_port : w.failed_port ≡ port
 
 -- Exactly the duties of the network were started, in their order, all at one lock, which had just been opened round the network with its
--- topologies, and whose histories are runs of it behind those loads; and the clock was read in each turn, and the desk that is handed back told each reading that rose.
+-- topologies. The histories of that lock are runs of the network behind those loads, where what is given with each event is what its type
+-- says. The clock was read in each turn; the desk that is handed back is at that lock, and told each reading that rose.
 pub record IsServed (w : World) (name : List ℕ) (turns : ℕ) : Type 0 where
   pub network : NetworkParts
   pub has : HasNetwork w.files name network
@@ -55,11 +57,12 @@ pub record IsServed (w : World) (name : List ℕ) (turns : ℕ) : Type 0 where
   pub duties : w.started.1 ≡ w.started.0 ++ duties_of network
   pub server : Server
   pub ready : IsReady w.files network server
-  pub runs : (s : Stand) → IsAtLock server.desk s → IsRun network ready.loaded.entries s
+  pub runs : (s : Stand) → IsAtLock server.desk s → AreGiven s.seen → IsRun network ready.loaded.entries s
   pub behind : w.bases.1 ≡ w.bases.0 ++ bases_of network server
   pub read : RoseBy turns w.readings
   pub told : Stand
   pub by : w.told ≡ Some told
+  pub at : IsAtLock server.desk told
   pub tells : TellsTime turns (desked_of server.desk) (desked_of told) w.last.0 w.last.1
 
 abbrev pub Ends : World → List ℕ → ℕ → Served → Type 0

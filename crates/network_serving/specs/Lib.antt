@@ -8,6 +8,7 @@ pub mod Runs
 pub mod Ends
 pub mod Tasks
 pub mod Watching
+pub mod Watches
 pub mod Working
 pub mod Running
 pub mod SpawnerStates

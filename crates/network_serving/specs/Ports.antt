@@ -1,5 +1,5 @@
 -- Peers that a server could not tell apart, and the ports that are opened in their order.
-use Rattle.std.specs.Prelude.{◌≡◌, ◌⊎◌, ◌<◌, ◌==◌, ◌&&◌, ℕ, Bool, true, false, List, [], ◌∷◌, ◌++◌, codes, map, slice_get, take, Option, Some, None, IfSome, option_to_list}
+use Rattle.std.specs.Prelude.{◌≡◌, ◌⊎◌, ◌<◌, ◌==◌, ◌&&◌, ℕ, Bool, true, false, List, [], ◌∷◌, ◌++◌, codes, map, slice_get, take, Option, Some, None, IfSome, replicate}
 use Rattle.std.specs.List.{list_any}
 use Rattle.dom_base.specs.declared.addr.Addr.{Addr}
 use Rattle.dom_base.specs.AddrOrder.{rank}
@@ -10,6 +10,7 @@ use Rattle.plant_text.specs.declared.settings.NetworkParts.{NetworkParts}
 use Rattle.plant_text.specs.declared.settings.PeerRow.{PeerRow}
 use Rattle.plant_text.specs.declared.settings.Comes.{Comes}
 use Rattle.plant_text.specs.declared.settings.Comes.TheVariants.{Anyone, From, Dialled}
+use Rattle.network_serving.specs.declared.duties.TheConstants.{WATCHERS}
 use Rattle.network_serving.specs.declared.served.Served.{Served}
 use Rattle.network_serving.specs.declared.served.Served.TheVariants as served
 
@@ -80,6 +81,11 @@ IsRefusedPort name n (served.BadNetwork file line fault) = (file ≡ name) × (l
 IsRefusedPort name n served.NoMemory = Unit {0}
 IsRefusedPort name n s = ⊥
 
+-- the port of watchers, once for each who answers them
+abbrev pub watch_ports : Option ℕ → List ℕ
+watch_ports None = []
+watch_ports (Some port) = replicate WATCHERS port
+
 -- the ports in the order in which they are opened: those of the peers, of one that is dialled the far one, and that of watchers
 abbrev pub ports_of : NetworkParts → List ℕ
-ports_of n = map (λ (row : PeerRow). row.port) n.peers ++ option_to_list n.watch
+ports_of n = map (λ (row : PeerRow). row.port) n.peers ++ watch_ports n.watch

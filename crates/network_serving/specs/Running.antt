@@ -12,7 +12,7 @@ use Rattle.server_loops.specs.declared.working.Worked.TheVariants as worked
 use Rattle.server_loops.specs.Operating.{Operates, context, side, sides, progress}
 use Rattle.server_loops.specs.declared.operating.Operated.{Operated}
 use Rattle.server_loops.specs.declared.operating.Operated.TheVariants as operated
-use Rattle.turn_desk.specs.Desks.{Stand, benched_of, desked_of, stand_of}
+use Rattle.turn_desk.specs.Desks.{IsStill, Stand, benched_of, desked_of, stand_of}
 use Rattle.turn_desk.specs.Works.{works}
 use Rattle.turn_desk.specs.WorkBenches.{bench_of, desk_of}
 use Rattle.turn_desk.specs.Charts.{charted_of}
@@ -20,6 +20,7 @@ use Rattle.network_serving.specs.declared.running.TaskEnd.{TaskEnd}
 use Rattle.network_serving.specs.declared.running.TaskEnd.TheVariants as end
 use Rattle.network_serving.specs.declared.tasks.Task.{Task}
 use Rattle.network_serving.specs.declared.tasks.Task.TheVariants as task
+use Rattle.network_serving.specs.Bases.{Base, Desk, Operator, Watcher, base_in}
 use Rattle.network_serving.specs.Watching.{WatchesPort}
 use Rattle.network_serving.specs.Working.{WorksOn}
 
@@ -77,10 +78,19 @@ module _ {K F I O R : Type 0} (x : Outside K F I O) (turns : ℕ) where
       (sides (side (x.left input) (x.input_faults input)) (side (x.written out) (x.output_faults out)))
       (sides (side (x.left input') (x.input_faults input')) (side (x.written out') (x.output_faults out')))
       × OperatedAsShown e (stand_of desk')
-  RunsTask end.Watching (task.Watch rt watcher listener) (task.Watch rt' watcher' listener') =
-      IsSameListener x listener' listener × WatchesPort turns (known watcher) (known watcher') (heard_of x listener) (heard_of x listener')
+  RunsTask end.Watching (task.Watch rt index watcher listener) (task.Watch rt' index' watcher' listener') =
+      (index' ≡ index) × IsSameListener x listener' listener × WatchesPort turns (known watcher) (known watcher') (heard_of x listener) (heard_of x listener')
   RunsTask e old new = ⊥
 
--- the first of these tasks became the second in a run of all turns that a number of 64 bits counts
+-- A task stands where it stood: its desk is at the same lock, with the same settings, and what is published is on the same list.
+abbrev pub StaysOn : Base → Base → Type 0
+StaysOn (Desk s) (Desk s') = IsStill s s'
+StaysOn (Operator s network shown list) (Operator s' network' shown' list') = IsStill s s' × (network' ≡ network) × (list' ≡ list)
+StaysOn (Watcher known list) (Watcher known' list') = list' ≡ list
+StaysOn old new = ⊥
+
+-- The first of these tasks became the second in a run of all turns that a number of 64 bits counts, and stands where it stood. So where
+-- the first one's desk was the server's, which is at its own lock, what the second one's has seen is a history of that lock (`IsAtLock`), of
+-- which `IsServed.runs` speaks.
 abbrev pub WasRun : {K F I O R : Type 0} → Outside K F I O → Task K F I O R → Task K F I O R → Type 0
-WasRun x old new = (end : TaskEnd) × RunsTask x (2 ^ 64 - 1) end old new
+WasRun x old new = (end : TaskEnd) × RunsTask x (2 ^ 64 - 1) end old new × StaysOn (base_in old) (base_in new)

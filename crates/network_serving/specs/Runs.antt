@@ -2,7 +2,7 @@
 use Rattle.std.specs.Prelude.{◌≡◌, ◌⊎◌, ℕ, true, List, [], ◌++◌, map}
 use Rattle.dom_edge.specs.Heeding.{Sides}
 use Rattle.plant_lock.specs.Views.{LegalFrom}
-use Rattle.plant_network.specs.Histories.{AreGiven, done_by, events_of}
+use Rattle.plant_network.specs.Histories.{done_by, events_of}
 use Rattle.plant_network.specs.Topologies.{whole}
 use Rattle.plant_network.specs.Turns.{Admits, Allowed, left_by}
 use Rattle.plant_network.specs.plant_model.Blind.{is_closed}
@@ -17,13 +17,6 @@ use Rattle.turn_desk.specs.Desks.{Stand, desked_of}
 use Rattle.desk_laws.specs.Closed.{IsSaidBlindly}
 use Rattle.desk_laws.specs.Connections.{IsAlone}
 use Rattle.desk_laws.specs.Written.{IsPutFor, Wrote}
-
--- A desk at the same lock as another. What it has seen of the history is legal, and what is given with its events is what their types say.
-pub record IsAtLock (first s : Stand) : Type 0 where
-  pub lock : s.lock ≡ first.lock
-  pub start : s.start ≡ first.start
-  pub legal : LegalFrom whole Admits Allowed left_by s.start s.seen
-  pub given : AreGiven s.seen
 
 -- What the desk has seen is a run of the network, behind these older entries. What a session at this desk writes over its link is a
 -- first part of what that run put for the peer, where nobody else opens, shuts or drains its connection. And what it put for a closed peer

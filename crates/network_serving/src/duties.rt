@@ -2,6 +2,9 @@
 use dom_base::{As, List};
 use plant_text::Comes;
 
+/// How many watchers are answered at once.
+pub const WATCHERS: u32 = 8;
+
 /// What a task is to do, without what it does it with.
 #[derive(Drop)]
 pub enum Duty {
@@ -13,6 +16,6 @@ pub enum Duty {
     Work(u32),
     /// It does what an operator's lines say.
     Operate,
-    /// It answers watchers, who come in at this port.
-    Watch(u16),
+    /// It answers watchers, who come in at this port, as one of several that do.
+    Watch(u16, u32),
 }

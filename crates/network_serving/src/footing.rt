@@ -49,6 +49,7 @@ impl<K, F, I, O, R: Wait + Clock + Drop> Task<K, F, I, O, R> {
             } => Footing::Operator(desk.standing(), Snapshot::of(network), publisher.tell()),
             Task::Watch {
                 rt: _,
+                index: _,
                 watcher,
                 listener: _,
             } => Footing::Watcher(Snapshot::of(watcher)),

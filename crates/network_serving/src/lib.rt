@@ -21,6 +21,7 @@ mod starting;
 mod tasks;
 mod telling;
 mod threads;
+mod watches;
 mod watching;
 mod working;
 

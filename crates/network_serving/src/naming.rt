@@ -31,9 +31,10 @@ impl<K: Listener, F, I, O, R: Wait + Clock + Drop> Task<K, F, I, O, R> {
             Task::Operate { .. } => Ok(Duty::Operate),
             Task::Watch {
                 rt: _,
+                index,
                 watcher: _,
                 listener,
-            } => Ok(Duty::Watch(listener.port())),
+            } => Ok(Duty::Watch(listener.port(), *index)),
         }
     }
 }

@@ -114,8 +114,8 @@ pub(crate) fn open_port<Q: Ports>(ports: &mut Q, port: u16, comes: Comes) -> Res
     }
 }
 
-// One task more.
-fn push_task<K: Listener + Drop, F: Drop, I: Drop, O: Drop, R: Wait + Clock + Drop>(
+/// One task more.
+pub(crate) fn push_task<K: Listener + Drop, F: Drop, I: Drop, O: Drop, R: Wait + Clock + Drop>(
     tasks: &mut Vec<Task<K, F, I, O, R>>,
     task: Task<K, F, I, O, R>,
 ) -> Result<(), NoMemory>

@@ -3,18 +3,20 @@ ghost use Rattle.std.specs.Prelude.{◌≡◌, ◌≤◌, ◌^◌, IfErr, IfOk, 
 ghost use Rattle.turn_desk.specs.Desks.{shares_at, stand_of};
 ghost use Rattle.network_files.specs.Settings.{HasNetwork};
 ghost use Rattle.server_loops.specs.Operating.{AreOfElements};
-ghost use Rattle.ted_watch.specs.Watch.{known, list_at, list_of, published};
+ghost use Rattle.ted_watch.specs.Watch.{list_of, published};
 ghost use Rattle.network_serving.specs.Bases.{IsReady, server};
 ghost use Rattle.network_serving.specs.Duties.{desks_of};
 ghost use Rattle.network_serving.specs.Loading.{IsBehind, IsOpenEnd};
 ghost use Rattle.network_serving.specs.Files.{IsLoadEnd};
 ghost use Rattle.network_serving.specs.Ports.{AreApart};
+ghost use Rattle.network_serving.specs.Watches.{AreUnused};
 
+use crate::duties::WATCHERS;
 use crate::loading::load_all;
 use crate::ports::check_ports;
 use crate::served::Served;
 use crate::settings::load_settings;
-use dom_base::NoMemory;
+use dom_base::{List, NoMemory};
 use dom_edge::Store;
 use plant_network::Plant;
 use plant_text::Network;
@@ -30,7 +32,7 @@ pub(crate) struct Prepared<R: Wait + Clock + Drop> {
     pub network: Network,
     pub desk: TurnDesk<R>,
     pub publisher: Publisher<R>,
-    pub watcher: Watcher,
+    pub watchers: List<Watcher>,
 }
 
 // How many desks a network has: those of the peers' ports, of the workers, of the carrier and of the operator, and that from which
@@ -76,21 +78,9 @@ fn open_loaded<T: Store, R: Wait + Clock + Drop>(
     }
 }
 
-// A publisher that has shown nothing, and its watcher.
-fn open_board<R: Wait + Drop>(rt: R, alloc: Global) -> Result<(Publisher<R>, Watcher), NoMemory>
-    ensures { IfOk result (λ r. (published r.0 ≡ []) × (known r.1 ≡ []) × (list_at r.1 ≡ list_of r.0)) }
-{
-    let (publisher, watchers) = open_watch(rt, alloc, 1)?;
-    let mut watchers = watchers.into_vec();
-    match watchers.pop() {
-        Some(watcher) => Ok((publisher, watcher)),
-        None => unreachable!(),
-    }
-}
-
-/// Loads the settings and the topologies that they name, and shows these. The watcher has learnt what was shown. Then it opens a lock
-/// round the network.
-#[tactic(auto, using(crate::proofs::Causes::settings_end, crate::proofs::Causes::port_end, crate::proofs::Causes::open_end, crate::proofs::Causes::want_end, crate::proofs::Loads::all_ready, crate::proofs::Loads::learnt_all))]
+/// Loads the settings and the topologies that they name, and shows these. Then it opens a lock round the network. The watchers know
+/// nothing yet.
+#[tactic(auto, using(crate::proofs::Causes::settings_end, crate::proofs::Causes::port_end, crate::proofs::Causes::open_end, crate::proofs::Causes::want_end, crate::proofs::Loads::all_ready))]
 pub(crate) fn prepare<T: Store, R: Wait + Clock + Copy + Drop>(
     rt: R,
     alloc: Global,
@@ -98,20 +88,19 @@ pub(crate) fn prepare<T: Store, R: Wait + Clock + Copy + Drop>(
     store: &mut T,
 ) -> Result<Prepared<R>, Served>
     ensures ok { IfOk result (λ p. HasNetwork (T.files store.old) name.now p.network × AreApart p.network × AreOfElements p.network (published p.publisher)) }
-    ensures ready { IfOk result (λ p. IsReady (T.files store.old) p.network (server (stand_of p.desk) (published p.publisher) (known p.watcher) (list_of p.publisher))) }
-    ensures list { IfOk result (λ p. list_at p.watcher ≡ list_of p.publisher) }
+    ensures ready { IfOk result (λ p. IsReady (T.files store.old) p.network (server (stand_of p.desk) (published p.publisher) (list_of p.publisher))) }
+    ensures unused { IfOk result (λ p. AreUnused (list_of p.publisher) p.watchers) }
     ensures seats { IfOk result (λ p. shares_at p.desk ≡ desks_of p.network) }
     ensures err { IfErr result (IsLoadEnd (T.files store.old) name.now (T.faults store.old, T.faults store.new) (T.failed_at store.new)) }
 {
     let (network, own) = load_settings(alloc, store, name)?;
     check_ports(alloc, name, &own)?;
-    let (mut publisher, mut watcher) = open_board(rt, alloc)?;
+    let (mut publisher, watchers) = open_watch(rt, alloc, WATCHERS)?;
     let desk = open_loaded(rt, alloc, store, network, &own, &mut publisher)?;
-    watcher.learn(&publisher.tell());
     Ok(Prepared {
         network: own,
         desk,
         publisher,
-        watcher,
+        watchers,
     })
 }

@@ -22,12 +22,14 @@ pub enum TaskEnd {
 }
 
 impl<K: Listener, F: Store, I: Source, O: Sink, R: Wait + Clock + Drop> Task<K, F, I, O, R> {
-    ghost use Rattle.network_serving.specs.Running.{RunsTask};
+    ghost use Rattle.network_serving.specs.Bases.{base_in};
+    ghost use Rattle.network_serving.specs.Running.{RunsTask, StaysOn};
 
     /// Does it, for so many turns at most. It ends as the call of its kind does, but that a worker that ran out of memory begins anew.
     pub fn run(&mut self, alloc: Global, turns: u64) -> TaskEnd
         requires new { IsNew K.heeds K.dialled_to self.old }
         ensures runs { RunsTask (record { opened_at = K.opened_at; heeds = K.heeds; dialled_to = K.dialled_to; accept_faults = K.faults; quiets = K.quiets; handed = K.handed; files = F.files; store_faults = F.faults; failed_at = F.failed_at; left = I.left; input_faults = I.faults; written = O.written; output_faults = O.faults }) turns result self.old self.new }
+        ensures stays { StaysOn (base_in self.old) (base_in self.new) }
     {
         match self {
             Task::Port {
@@ -58,6 +60,7 @@ impl<K: Listener, F: Store, I: Source, O: Sink, R: Wait + Clock + Drop> Task<K, 
             }
             Task::Watch {
                 rt,
+                index: _,
                 watcher,
                 listener,
             } => {

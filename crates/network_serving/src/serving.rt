@@ -1,73 +1,35 @@
 //! A network is served.
-ghost use Rattle.std.specs.Prelude.{◌≡◌, ◌++◌, IfErr, IfOk, OnOk, option_to_list};
+ghost use Rattle.std.specs.Prelude.{◌≡◌, ◌++◌, IfErr, IfOk, OnOk};
 ghost use Rattle.std.specs.Option.{option_map};
 ghost use Rattle.server_loops.specs.Operating.{AreOfElements};
-ghost use Rattle.ted_watch.specs.Watch.{known, list_at, list_of, published};
+ghost use Rattle.ted_watch.specs.Watch.{list_of, published};
 ghost use Rattle.turn_desk.specs.Desks.{shares_at, stand_of};
-ghost use Rattle.network_serving.specs.Bases.{bases_of, server, watch_bases};
+ghost use Rattle.network_serving.specs.Bases.{bases_of, server};
 ghost use Rattle.network_serving.specs.Spawners.{bases, faults_of, started};
-ghost use Rattle.network_serving.specs.Duties.{desks_of, duties_of, watch_duties};
+ghost use Rattle.network_serving.specs.Duties.{desks_of, duties_of};
 ghost use Rattle.network_serving.specs.Ends.{Ends};
 ghost use Rattle.network_serving.specs.Ports.{ports_of};
 ghost use Rattle.network_serving.specs.Starting.{IsFresh, IsStartEnd, called};
+ghost use Rattle.network_serving.specs.Watches.{AreUnused};
 
-use crate::planning::{desk_beside, open_port, plan_tasks};
+use crate::planning::{desk_beside, plan_tasks};
 use crate::preparing::{Prepared, prepare};
 use crate::served::Served;
 use crate::spawner::Spawner;
 use crate::starting::{start, start_all};
 use crate::tasks::Task;
 use crate::telling::tell_ready;
+use crate::watches::plan_watches;
 use dom_edge::{Clock as TickClock, Listener, Ports, Sink, Source, Store};
-use plant_text::Comes;
 use server_loops::tick_on;
 use std::alloc::Global;
 use std::sync::Wait;
 use std::thread::Threads;
 use std::time::Clock;
-use ted_watch::Watcher;
 use turn_desk::TurnDesk;
 
-// Listens for watchers, where the settings have a port of theirs, and starts to answer them.
-#[tactic(auto, using(crate::proofs::Starts::watch_closed, crate::proofs::Starts::unstarted_end))]
-fn start_watch<S, Q, F, I, O, R, L>(
-    rt: R,
-    alloc: Global,
-    ports: &mut Q,
-    spawner: &mut Spawner<S>,
-    log: &mut L,
-    at: &str,
-    watch: Option<u16>,
-    watcher: Watcher,
-) -> Result<(), Served>
-where
-    S: Threads,
-    Q: Ports,
-    Q::Port: Send + Drop + 'static,
-    <Q::Port as Listener>::Link: Send + 'static,
-    F: Store + Send + Drop + 'static,
-    I: Source + Send + Drop + 'static,
-    O: Sink + Send + Drop + 'static,
-    R: Wait + Clock + Copy + Send + Drop + 'static,
-    L: Sink,
-    ensures ok { OnOk result (started spawner.new ≡ started spawner.old ++ watch_duties watch) }
-    ensures behind { OnOk result (bases spawner.new ≡ bases spawner.old ++ watch_bases (known watcher) (list_at watcher) watch) }
-    ensures err { IfErr result (IsStartEnd (option_to_list watch) (called (Q.calls ports.old, Q.calls ports.new) (Q.faults ports.old, Q.faults ports.new) (Q.failed_at ports.new)) (faults_of spawner.old, faults_of spawner.new)) }
-{
-    let Some(port) = watch else {
-        return Ok(());
-    };
-    let listener = open_port(ports, port, Comes::Anyone)?;
-    let task: Task<Q::Port, F, I, O, R> = Task::Watch {
-        rt,
-        watcher,
-        listener,
-    };
-    start(alloc, spawner, log, at, &[], task)
-}
-
-// Listens at the ports of a network, and starts its tasks. The desk is left for what tells the time.
-#[tactic(auto, using(crate::proofs::Starts::planned_end, crate::proofs::Starts::watch_end, crate::proofs::Starts::unstarted_from, crate::proofs::Starts::unstarted_end, crate::proofs::Starts::want_start, crate::proofs::Starts::duties_on))]
+// Listens at the ports of a network, that of watchers last, and then starts its tasks. The desk is left for what tells the time.
+#[tactic(auto, using(crate::proofs::Starts::planned_end, crate::proofs::Starts::watched_end, crate::proofs::Starts::unstarted_from, crate::proofs::Starts::unstarted_end, crate::proofs::Starts::want_start, crate::proofs::Starts::duties_on))]
 fn start_network<Q, S, F, I, O, R, L>(
     rt: R,
     alloc: Global,
@@ -93,9 +55,9 @@ where
     requires elements { AreOfElements prepared.network (published prepared.publisher) }
     requires fresh { IsFresh (stand_of prepared.desk) }
     requires seats { shares_at prepared.desk ≡ desks_of prepared.network }
-    requires list { list_at prepared.watcher ≡ list_of prepared.publisher }
+    requires unused { AreUnused (list_of prepared.publisher) prepared.watchers }
     ensures ok { OnOk result (started spawner.new ≡ started spawner.old ++ duties_of prepared.network) }
-    ensures behind { OnOk result (bases spawner.new ≡ bases spawner.old ++ bases_of prepared.network (server (stand_of prepared.desk) (published prepared.publisher) (known prepared.watcher) (list_of prepared.publisher))) }
+    ensures behind { OnOk result (bases spawner.new ≡ bases spawner.old ++ bases_of prepared.network (server (stand_of prepared.desk) (published prepared.publisher) (list_of prepared.publisher))) }
     ensures stand { IfOk result (λ desk. stand_of desk ≡ stand_of prepared.desk) }
     ensures err { IfErr result (IsStartEnd (ports_of prepared.network) (called (Q.calls ports.old, Q.calls ports.new) (Q.faults ports.old, Q.faults ports.new) (Q.failed_at ports.new)) (faults_of spawner.old, faults_of spawner.new)) }
 {
@@ -103,12 +65,13 @@ where
         network,
         mut desk,
         publisher,
-        watcher,
+        watchers,
     } = prepared;
+    let parts = network.parts();
     let tasks = plan_tasks::<Q, F, I, O, R>(rt, alloc, &mut desk, ports, &network)?;
-    let peers = network.parts().peers.as_slice();
-    start_all(alloc, spawner, log, at, peers, tasks)?;
-    let watch = network.parts().watch;
+    let told = publisher.tell();
+    let watches = plan_watches::<Q, F, I, O, R>(rt, alloc, ports, parts.watch, watchers, &told)?;
+    start_all(alloc, spawner, log, at, parts.peers.as_slice(), tasks)?;
     let beside = desk_beside(rt, &mut desk)?;
     let operator: Task<Q::Port, F, I, O, R> = Task::Operate {
         desk: beside,
@@ -119,14 +82,14 @@ where
         out,
     };
     start(alloc, spawner, log, at, &[], operator)?;
-    start_watch::<S, Q, F, I, O, R, L>(rt, alloc, ports, spawner, log, at, watch, watcher)?;
+    start_all(alloc, spawner, log, at, &[], watches)?;
     Ok(desk)
 }
 
 /// Serves the network whose settings stand in the file of that name: it loads the topologies that they name and shows them, listens
-/// at the port of each peer (RFC 5440, section 9.1) or will dial it, starts a task for each, one that carries messages, one for each worker, and
-/// one that does what an operator's lines say; and where the settings have a port of watchers it listens there last, and starts a task
-/// that answers them. Then it tells the time, in so many turns.
+/// at the port of each peer (RFC 5440, section 9.1) or will dial it, and last at the port of watchers, where the settings have one. It starts a
+/// task for each peer, one that carries messages, one for each worker, one that does what an operator's lines say, and eight that
+/// answer watchers. Then it tells the time, in so many turns.
 ///
 /// `told` gets the desk by which it told the time. `files`, `input` and `out` are the operator's. What is said on `log` is a line for each task that was started, and `pce: ready`;
 /// `at` is what it calls the addresses at which it listens.

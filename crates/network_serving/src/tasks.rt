@@ -38,9 +38,10 @@ pub enum Task<K, F, I, O, R: Wait + Clock + Drop> {
         input: I,
         out: O,
     },
-    /// Answers watchers. It has no way to the network.
+    /// Answers watchers, as one of several that do. It has no way to the network.
     Watch {
         rt: R,
+        index: u32,
         watcher: Watcher,
         listener: K,
     },

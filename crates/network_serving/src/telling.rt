@@ -81,11 +81,13 @@ fn write_duty(
             into.extend_from_slice(b"pce: reads an operator's lines")?;
             Ok(())
         }
-        Duty::Watch(port) => write_listens(at, *port, b"watchers", into),
+        Duty::Watch(port, 0) => write_listens(at, *port, b"watchers", into),
+        Duty::Watch(_, _) => Ok(()),
     }
 }
 
-/// Says that a task of this duty was started, unless that can't be written. `at` is what the addresses are called that are listened at.
+/// Says that a task of this duty was started, unless that can't be written. The first of those that answer watchers speaks for all of
+/// them. `at` is what the addresses are called that are listened at.
 pub(crate) fn tell_started<L: Sink>(
     alloc: Global,
     log: &mut L,
@@ -94,7 +96,10 @@ pub(crate) fn tell_started<L: Sink>(
     duty: &Duty,
 ) {
     let mut text = Vec::new(alloc);
-    if write_duty(at, peers, duty, &mut text).is_ok() && text.push(b'\n').is_ok() {
+    if write_duty(at, peers, duty, &mut text).is_err() || text.is_empty() {
+        return;
+    }
+    if text.push(b'\n').is_ok() {
         let _ = write_all(log, &text);
     }
 }

@@ -1,7 +1,8 @@
 //! A worker that goes on after memory ran out.
 ghost use Rattle.std.specs.Prelude.{◌≡◌, ◌≢◌, ◌↔◌, [], ℕ, Some, true};
 ghost use Rattle.server_loops.specs.declared.working.Worked.TheVariants.{NoMemory as OutOfMemory, Spent as SpentAt};
-ghost use Rattle.turn_desk.specs.WorkBenches.{bench_of};
+ghost use Rattle.turn_desk.specs.Desks.{IsStill};
+ghost use Rattle.turn_desk.specs.WorkBenches.{bench_of, desk_of};
 ghost use Rattle.network_serving.specs.Working.{IsTry, WorksOn};
 
 use crate::gates::OpenGate;
@@ -48,6 +49,7 @@ fn try_once<R: Wait + Clock>(
 ) -> Worked
     requires new { is_new ≡ true → cache.old.entries ≡ [] }
     ensures tries { IsTry index turns result (bench_of bench.old) (bench_of bench.new) cache.new }
+    ensures stays { IsStill (desk_of bench.old) (desk_of bench.new) }
     ensures spent { result ≢ OutOfMemory → (t : ℕ) → (result ≡ SpentAt t) ↔ ((bench_of bench.new).spent ≡ Some t) }
 {
     if !renew(alloc, bench, cache, is_new) {
@@ -71,6 +73,7 @@ pub(crate) fn work_on<R: Wait + Clock>(
     ensures works { WorksOn index turns turns result (bench_of bench.old) (bench_of bench.new) cache.new }
     ensures spent { (t : ℕ) → (result ≡ SpentAt t) ↔ ((bench_of bench.new).spent ≡ Some t) }
     ensures lasts { result ≢ OutOfMemory }
+    ensures stays { IsStill (desk_of bench.old) (desk_of bench.new) }
 {
     for run in 0..turns {
         match try_once(alloc, bench, cache, run == 0, index, turns) {

@@ -1,1 +1,5 @@
+mod Demanded
 mod Free
+mod SpanNumbers
+mod SpanOrder
+mod Tabled

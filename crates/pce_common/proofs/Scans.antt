@@ -36,15 +36,6 @@ picked_more {X} p name k left xs x at is =
     ap (λ (ys : List X). slice_get (picked p name ys) left) (dropped_next xs k x at)
     ∙ ap (λ (b : Bool). slice_get (map name (cond b (x ∷ filter p (drop (k + 1) xs)) (filter p (drop (k + 1) xs)))) left) is
 
--- ---- how many pass a test
-
-pub tally_next : {X : Type 0} (p : X → Bool) (xs : List X) (k : ℕ) (x : X) → slice_get xs k ≡ Some x → length (filter p (drop k xs)) ≡ cond (p x) 1 0 + length (filter p (drop (k + 1) xs))
-tally_next {X} p xs k x at = ap (λ (ys : List X). length (filter p ys)) (dropped_next xs k x at) ∙ go (p x)
-  where
-    go : (b : Bool) → length (cond b (x ∷ filter p (drop (k + 1) xs)) (filter p (drop (k + 1) xs))) ≡ cond b 1 0 + length (filter p (drop (k + 1) xs))
-    go true = omega arith
-    go false = omega arith
-
 -- ---- what is said of one that is there
 
 pub on_some : {A : Type 0} (o : Option A) (x : A) (P : Type 0) → o ≡ Some x → OnSome o P → P

@@ -15,7 +15,7 @@ use Rattle.cost_cache.specs.Keys.{same_key}
 use Rattle.cost_cache.specs.SameKeys.{same_key-Decides}
 use Rattle.cost_cache.specs.Entries.{Entries, IsGood, IsAfter, IsKept}
 use Rattle.server_loops.specs.Benches.{Benched, IsGiven}
-use Rattle.server_loops.specs.WorkerSteps.{Known, AreRight, CanSolve, Stays}
+use Rattle.server_loops.specs.WorkerSteps.{Known, AreRight, CanSolve, OnlyAdds}
 
 -- a call of the cache keeps it right
 pub right_after : (known : Known) (key : Key) (g : Rows) (old new : Entries) → known key.at key.generation ≡ Some g → AreRight known old → IsAfter old key new →
@@ -33,7 +33,7 @@ right_after known key g old new knows right after good k v has =
     ]
 
 -- so does a bench that learns topologies
-pub right_grows : (old new : Benched) (cache : Entries) → Stays old new → AreRight old.topologies cache → AreRight new.topologies cache
+pub right_grows : (old new : Benched) (cache : Entries) → OnlyAdds old new → AreRight old.topologies cache → AreRight new.topologies cache
 right_grows old new cache stays right k v has = let was = right k v has in (was.0, stays.topologies k.at k.generation was.0 was.1, was.2)
 
 -- it is good for each job of the bench

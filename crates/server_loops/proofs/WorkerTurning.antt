@@ -15,21 +15,21 @@ use Rattle.cost_cache.specs.Keys.{key_of}
 use Rattle.cost_cache.specs.declared.key.Key.{Key}
 use Rattle.server_loops.specs.Benches.{Call, Ready, Look, Finish, Benched, Goes, IsOf, made_by}
 use Rattle.server_loops.specs.WorkerTurns.{Asks, Follows, IsTurn, IsCut, given_job, given_key, jobs_given, keys_given, key_of_work}
-use Rattle.server_loops.specs.WorkerSteps.{AreRight, Holds, IsLive, Stays, AsksBy, FollowsBy, TurnBy, IsFound, IsFinished, IsTurned}
+use Rattle.server_loops.specs.WorkerSteps.{AreRight, Holds, IsLive, OnlyAdds, AsksBy, FollowsBy, TurnBy, IsFound, IsFinished, IsTurned}
 use Rattle.server_loops.specs.declared.benches.Finished.{Finished}
 use Rattle.server_loops.specs.declared.benches.Finished.TheVariants.{Kept as Taken, Stranger, NoMemory as NoRoom}
 use Rattle.server_loops.proofs.Righting.{right_grows}
 
-pub stays_of : (old new : Benched) (call : Call) → Goes old new call → Stays old new
+pub stays_of : (old new : Benched) (call : Call) → Goes old new call → OnlyAdds old new
 stays_of old new call goes = record { topologies = goes.topologies; spent = goes.stays }
 
-pub stays_on : (a b c : Benched) → Stays a b → Stays b c → Stays a c
+pub stays_on : (a b c : Benched) → OnlyAdds a b → OnlyAdds b c → OnlyAdds a c
 stays_on a b c ab bc = record {
   topologies = λ at generation g is. bc.topologies at generation g (ab.topologies at generation g is);
   spent = λ t is. bc.spent t (ab.spent t is);
 }
 
-pub stays_here : (a : Benched) → Stays a a
+pub stays_here : (a : Benched) → OnlyAdds a a
 stays_here a = record { topologies = λ at generation g is. is; spent = λ t is. is }
 
 -- the calls of one part behind those of another
@@ -64,7 +64,7 @@ found_one index old new job goes =
     }
 
 module _ (index : ℕ) (old mid new : Benched) (found : Option (As × ℕ)) (first : Goes old mid (Ready index None)) (second : Goes mid new (Ready 0 found)) where
-  abbrev both_stay : Stays old new
+  abbrev both_stay : OnlyAdds old new
   both_stay = stays_on old mid new (stays_of old mid (Ready index None) first) (stays_of mid new (Ready 0 found) second)
 
   found_by : (m s : Option ℕ) → mid.spent ≡ m → new.spent ≡ s → IsFound index old new found
@@ -199,7 +199,7 @@ module _ (index : ℕ) (old mid new : Benched) (passed : List (As × ℕ)) (cach
   abbrev none_there : Call
   none_there = Look job.0 job.1 (Ok None)
 
-  abbrev stays_late : Stays old new
+  abbrev stays_late : OnlyAdds old new
   stays_late = stays_on old mid new f.stays (stays_of mid new none_there looked)
 
   abbrev late : IsTurn index (f.made ++ none_there ∷ [])

@@ -44,7 +44,7 @@ abbrev pub IsLive : Benched → Type 0
 IsLive b = (t : ℕ) → b.spent ≡ Some t → ⊥
 
 -- calls that only add topologies, of a bench that stays spent
-pub record Stays (old new : Benched) : Type 0 where
+pub record OnlyAdds (old new : Benched) : Type 0 where
   pub topologies : (at : As) (generation : ℕ) (g : Rows) → old.topologies at generation ≡ Some g → new.topologies at generation ≡ Some g
   pub spent : (t : ℕ) → old.spent ≡ Some t → new.spent ≡ Some t
 
@@ -73,7 +73,7 @@ pub record IsFound (index : ℕ) (old new : Benched) (found : Option (As × ℕ)
   pub made : List Call
   pub calls : new.calls ≡ old.calls ++ made
   pub asks : AsksBy new.spent index made found
-  pub stays : Stays old new
+  pub stays : OnlyAdds old new
   pub no_jobs : jobs_given made ≡ []
   pub no_keys : keys_given made ≡ []
 
@@ -81,7 +81,7 @@ pub record IsFound (index : ℕ) (old new : Benched) (found : Option (As × ℕ)
 pub record IsFinished (work : Work) (end : Result (Unit {0}) NoMemory) (old new : Benched) (before after : Entries) : Type 0 where
   pub made : List Call
   pub calls : new.calls ≡ old.calls ++ made
-  pub stays : Stays old new
+  pub stays : OnlyAdds old new
   pub ends : MatchResult end (λ _. FollowsBy new.spent work made × Holds (key_of_work work) before after × AreRight new.topologies after) (λ _. Breaks (Ok (Some work)) made × IsLive new)
   pub no_jobs : jobs_given made ≡ []
   pub no_keys : keys_given made ≡ []
@@ -98,6 +98,6 @@ pub record IsWhole (index : ℕ) (made : List Call) (new : Benched) (before afte
 pub record IsTurned (index : ℕ) (end : Result (Unit {0}) NoMemory) (old new : Benched) (passed passed_after : List (As × ℕ)) (before after : Entries) : Type 0 where
   pub made : List Call
   pub calls : new.calls ≡ old.calls ++ made
-  pub stays : Stays old new
+  pub stays : OnlyAdds old new
   pub gate : passed_after ≡ passed ++ jobs_given made
   pub ends : MatchResult end (λ _. IsWhole index made new before after) (λ _. IsBroken index made × IsLive new)

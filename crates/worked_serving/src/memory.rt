@@ -46,6 +46,9 @@ port = 4200
 connect = \"192.0.2.22\"
 ";
 
+// A call that is past the last.
+const NEVER: u64 = 99;
+
 // What is started, and what is said meanwhile.
 const STARTED: &[u8] = b"\
 port 0 4189
@@ -54,7 +57,14 @@ carry 2 1 1 2 0 1 1 0 0 2 2 0
 work 0
 work 1
 operate
-watch 4200
+watch 4200 0
+watch 4200 1
+watch 4200 2
+watch 4200 3
+watch 4200 4
+watch 4200 5
+watch 4200 6
+watch 4200 7
 ";
 
 const TOLD: &[u8] = b"\
@@ -102,7 +112,9 @@ fn put_duty(duty: &Duty, into: &mut Vec<u8>) -> Result<(), Fail> {
         Duty::Carry(ways) => put_ways(ways.as_slice(), into),
         Duty::Work(index) => put_words(b"work", &[u64::from(*index)], into),
         Duty::Operate => put_words(b"operate", &[], into),
-        Duty::Watch(port) => put_words(b"watch", &[u64::from(*port)], into),
+        Duty::Watch(port, index) => {
+            put_words(b"watch", &[u64::from(*port), u64::from(*index)], into)
+        }
     }
 }
 
@@ -130,7 +142,7 @@ fn store(alloc: Global, settings: &[u8]) -> Result<MemoryStore, Fail> {
 
 fn ports(alloc: Global, fails: List<u64>) -> Result<MemoryPorts, Fail> {
     let mut listeners = List::new(alloc);
-    for _port in 0..3u32 {
+    for _port in 0..10u32 {
         listeners.push(MemoryListener::new(List::new(alloc), List::new(alloc)))?;
     }
     Ok(MemoryPorts::new(listeners, fails))
@@ -199,20 +211,22 @@ fn ended(end: &[u8], lines: usize, alloc: Global) -> Result<Vec<u8>, Fail> {
 
 #[test]
 fn all_tasks_are_started_in_order(rt: HostRuntime) -> Result<(), Fail> {
-    let run = serve_once(rt, rt.alloc(), SETTINGS, 9, 9)?;
-    assert_eq!(rt; run.end, ended(b"turns\n", 7, rt.alloc())?);
+    let run = serve_once(rt, rt.alloc(), SETTINGS, NEVER, NEVER)?;
+    assert_eq!(rt; run.end, ended(b"turns\n", 14, rt.alloc())?);
     assert_eq!(rt; run.log.bytes(), TOLD);
     Ok(())
 }
 
 // A row: the call of `listen` that fails, that of `start`, the end, and how many tasks were started by then.
-const FAULTS: [(u64, u64, &[u8], usize); 6] = [
-    (0, 9, b"no port 4189\n", 0),
-    (1, 9, b"no port 4200\n", 0),
-    (2, 9, b"no port 4200\n", 6),
-    (9, 0, b"no thread\n", 0),
-    (9, 4, b"no thread\n", 4),
-    (9, 6, b"no thread\n", 6),
+const FAULTS: [(u64, u64, &[u8], usize); 8] = [
+    (0, NEVER, b"no port 4189\n", 0),
+    (1, NEVER, b"no port 4200\n", 0),
+    (2, NEVER, b"no port 4200\n", 0),
+    (9, NEVER, b"no port 4200\n", 0),
+    (NEVER, 0, b"no thread\n", 0),
+    (NEVER, 4, b"no thread\n", 4),
+    (NEVER, 6, b"no thread\n", 6),
+    (NEVER, 13, b"no thread\n", 13),
 ];
 
 #[test]
@@ -260,7 +274,7 @@ port = 4189
 #[test]
 fn a_port_stands_once(rt: HostRuntime) -> Result<(), Fail> {
     for settings in [TWO_PEERS, PEER_AND_WATCHERS] {
-        let run = serve_once(rt, rt.alloc(), settings, 9, 9)?;
+        let run = serve_once(rt, rt.alloc(), settings, NEVER, NEVER)?;
         assert_eq!(rt; run.end.as_slice(), b"bad network 0\n".as_slice());
     }
     Ok(())
