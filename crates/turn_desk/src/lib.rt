@@ -16,6 +16,7 @@ mod guide;
 mod notes;
 mod rounds;
 mod standing;
+mod taping;
 mod turns;
 mod workbench;
 mod working;
