@@ -9,8 +9,9 @@ use Rattle.event_tape.specs.declared.tape.TapeEnd.{TapeEnd}
 use Rattle.plant_record.specs.Parts.{Title, part_name, part_text, tail_by, topologies}
 use Rattle.plant_record.specs.Books.{BeginsWith, Deed, File, files, kept, next_part, part_count, told_in}
 use Rattle.plant_record.specs.Standing.{Breaks, ClosesFile, ClosesPart, HasPart, IsCut, IsCutOff, IsFlushed, IsKept, ScriptState, Stands, written_in}
-use Rattle.plant_record.specs.Recording.{IsLast, IsPart, IsWhole}
+use Rattle.plant_record.specs.Recording.{Concludes, IsLast, IsPart, IsWhole, Leaves}
 use Rattle.plant_record.specs.declared.fault.Fault.{Fault}
+use Rattle.plant_record.specs.declared.recorded.Recorded.{Recorded}
 use Rattle.plant_record.proofs.Standing.{appended, breaks_at, cut_begins, stands_breaks, whole_begins}
 use Rattle.plant_record.proofs.Closing.{IsClosed, file_closed, known_close}
 
@@ -136,3 +137,10 @@ module _ {F : Type 0} (written : F → Option (List ℕ)) (peers : List PeerRow)
       go : (bytes : List ℕ) → s.number ≡ part_count b.book + 1 → IsCut peers t told b.book bytes → (answer : Result (Unit {0}) FolderError) → MatchResult answer (λ _. IsClosed b.is_kept.contents d (part_name s.number, bytes)) (λ _. d ≡ c) → IsPart peers t told d
       go bytes count cut (Ok x) closed = cut_closed told b.book c d s.number bytes b.is_kept count cut closed
       go bytes count cut (Err e) same = left_so told s c d b same
+
+  -- ---- the end
+
+  -- a last part was closed, or a fault came of it
+  pub concluded : (told : List Told) (ended : Option TapeEnd) (end result : Recorded) (d : Option Contents) → (IsWhole peers t told ended d → Leaves peers t told end d) → Concludes peers t told ended end result d → Leaves peers t told result d
+  concluded told ended end result d leaves (inl (same, whole)) = subst (λ (r : Recorded). Leaves peers t told r d) (sym same) (leaves whole)
+  concluded told ended end result d leaves (inr (why, same, part)) = subst (λ (r : Recorded). Leaves peers t told r d) (sym same) part

@@ -1,5 +1,9 @@
-use Rattle.std.proofs.Common.{◌≡◌, ℕ, ◌+◌, ◌++◌, ◌∷◌, [], List, Ok, Err, Some, None, refl, sym, ap, subst, ◌∙◌, arith, rules, inl, inr, append-nil, drop}
+use Rattle.std.proofs.Common.{refl}
 use Rattle.plant_record.proofs.files.keep_topology.Goals as goal
 
 pub returns-clause-ok : goal.returns-clause-ok
-returns-clause-ok g c = ?
+returns-clause-ok g c =
+    let n = c.in_ok-name.ensures in
+    let t = c.in_ok-text.ensures in
+    let k = c.keep_file.ensures.ok in
+    ?
