@@ -1,1 +1,4 @@
+mod Demanded
 mod Free
+mod SpanNumbers
+mod SpanOrder

@@ -1,2 +1,4 @@
 pub mod Asking
+pub mod Spans
 pub mod Support
+pub mod Tables

@@ -4,7 +4,9 @@
 
 mod admission;
 mod bars;
+mod spans;
 mod support;
+mod tables;
 
 pub use admission::{allows, asks_nothing, weight};
 pub use bars::{bars_link, bars_node};
