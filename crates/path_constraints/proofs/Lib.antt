@@ -2,3 +2,4 @@ mod Demanded
 mod Free
 mod SpanNumbers
 mod SpanOrder
+mod Tabled

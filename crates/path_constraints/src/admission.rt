@@ -21,7 +21,7 @@ pub fn weight(link: &Link, metric: Metric) -> u32
 
 // Whether a link has the bandwidth that is asked for, and the colours: none of `exclude_any`, one
 // of `include_any` unless that is 0, and all of `include_all` (RFC 3209, section 4.7.4).
-fn fits(query: &Query, link: &Link) -> bool
+pub(crate) fn fits(query: &Query, link: &Link) -> bool
     ensures { IsTrue result ↔ Fits query.now link.now }
 {
     query.bandwidth <= link.bytes_per_second

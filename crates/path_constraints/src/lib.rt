@@ -4,10 +4,12 @@
 
 mod admission;
 mod bars;
+mod prepared;
 mod spans;
 mod support;
 mod tables;
 
 pub use admission::{allows, asks_nothing, weight};
 pub use bars::{bars_link, bars_node};
+pub use prepared::Prepared;
 pub use support::{ExclusionError, copies_of_demands, find_unsupported, supported};

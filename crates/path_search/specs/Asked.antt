@@ -19,7 +19,8 @@ pub record AreBarredUpTo (g : Rows) (q : Query) (barred : List Bool) (m : ℕ) :
 abbrev pub AreBarred : Rows → Query → List Bool → Type 0
 AreBarred g q barred = (i : ℕ) (n : Addr) → slice_get g.nodes i ≡ Some n → (is_barred barred i ≡ true) ↔ BarsNode q n
 
--- where nothing is asked of links, all are allowed
+-- where nothing is asked of links, all are allowed; the query whose exclusions are in order is this one
 pub record IsAsked (g : Rows) (q : Query) (asked : Asked) : Type 0 where
   pub free : asked.free ≡ true → (l : Link) → Allows q l
   pub barred : AreBarred g q asked.barred.items
+  pub prepared : asked.prepared ≡ q

@@ -5,16 +5,17 @@ ghost use Rattle.dom_base.specs.Admission.{Allows};
 ghost use Rattle.dom_base.specs.declared.link.Link.{Link};
 
 use dom_base::{Link, NoMemory, Query};
-use path_constraints::{allows, asks_nothing, bars_node};
+use path_constraints::{Prepared, asks_nothing};
 use std::alloc::Global;
 use te_links::Links;
 
-/// What a query asks: whether nothing is asked of links, and which nodes it bars, by their places.
-/// A place past the end is not barred.
+/// What a query asks: whether nothing is asked of links, which nodes it bars, by their places, and the
+/// query with its exclusions in order. A place past the end is not barred.
 #[derive(Drop)]
-pub(crate) struct Asked {
+pub(crate) struct Asked<'q> {
     pub(crate) free: bool,
     pub(crate) barred: Vec<bool>,
+    pub(crate) prepared: Prepared<'q>,
 }
 
 // Where nothing is excluded, no node is barred.
@@ -30,44 +31,49 @@ fn none_barred<'a, G: Links<'a>>(alloc: Global, _links: &G, _query: &Query) -> V
 fn barred_nodes<'a, G: Links<'a>>(
     alloc: Global,
     links: &G,
-    query: &Query,
+    prepared: &Prepared<'_>,
 ) -> Result<Vec<bool>, NoMemory>
-    ensures { IfOk result (λ barred. AreBarred (G.rows links.now) query.now barred.items) }
+    ensures { IfOk result (λ barred. AreBarred (G.rows links.now) prepared.now barred.items) }
 {
+    let query = prepared.query();
     if query.exclusions.is_empty() {
         return Ok(none_barred(alloc, links, query));
     }
     let mut barred = Vec::with_capacity(alloc, links.node_count() as usize)?;
     for i in 0..links.node_count() {
-        barred.push(bars_node(query, links.node_at(i)))?;
+        barred.push(prepared.bars_node(links.node_at(i)))?;
     }
     Ok(barred)
 }
 
 /// What the query asks of the nodes and links of a topology.
-pub(crate) fn asked_by<'a, G: Links<'a>>(
+pub(crate) fn asked_by<'a, 'q, G: Links<'a>>(
     alloc: Global,
     links: &G,
-    query: &Query,
-) -> Result<Asked, NoMemory>
+    query: &'q Query,
+) -> Result<Asked<'q>, NoMemory>
     ensures { IfOk result (IsAsked (G.rows links.now) query.now) }
 {
+    let prepared = Prepared::of(alloc, query)?;
+    let barred = barred_nodes(alloc, links, &prepared)?;
     Ok(Asked {
         free: asks_nothing(query),
-        barred: barred_nodes(alloc, links, query)?,
+        barred,
+        prepared,
     })
 }
 
 /// Whether the query allows a link: its row is looked at only where something is asked.
-pub(crate) fn allows_link(asked: &Asked, query: &Query, link: &Link) -> bool
-    requires { asked.now.free ≡ true → (l : Link) → Allows query.now l }
-    ensures { IsTrue result ↔ Allows query.now link.now }
+pub(crate) fn allows_link(asked: &Asked<'_>, _query: &Query, link: &Link) -> bool
+    requires free { asked.now.free ≡ true → (l : Link) → Allows _query.now l }
+    requires prepared { asked.now.prepared ≡ _query.now }
+    ensures { IsTrue result ↔ Allows _query.now link.now }
 {
-    asked.free || allows(query, link)
+    asked.free || asked.prepared.allows(link)
 }
 
 // Whether the node at a place is barred.
-fn is_node_barred(asked: &Asked, node: u32) -> bool
+fn is_node_barred(asked: &Asked<'_>, node: u32) -> bool
     ensures { result ≡ is_barred asked.now.barred.items node }
 {
     match asked.barred.get(node as usize) {
@@ -77,7 +83,7 @@ fn is_node_barred(asked: &Asked, node: u32) -> bool
 }
 
 /// Whether a link begins or ends at a node that is barred.
-pub(crate) fn bars_ends(asked: &Asked, tail: u32, head: u32) -> bool
+pub(crate) fn bars_ends(asked: &Asked<'_>, tail: u32, head: u32) -> bool
     ensures { IsTrue result ↔ ((is_barred asked.now.barred.items tail ≡ true) ⊎ (is_barred asked.now.barred.items head ≡ true)) }
 {
     is_node_barred(asked, tail) || is_node_barred(asked, head)

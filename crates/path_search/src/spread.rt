@@ -34,7 +34,7 @@ fn spread_link<'a, G: Links<'a>>(
     links: &G,
     arrivals: &Arrivals<'a>,
     query: &Query,
-    asked: &Asked,
+    asked: &Asked<'_>,
     head: u32,
     k: usize,
     labels: &mut Labels,
@@ -59,7 +59,7 @@ fn spread_link<'a, G: Links<'a>>(
 pub(crate) fn spread_node<'a, G: Links<'a>>(
     links: &mut G,
     query: &Query,
-    asked: &Asked,
+    asked: &Asked<'_>,
     place: u32,
     labels: &mut Labels,
     waiting: &mut Waiting,
@@ -84,7 +84,7 @@ pub(crate) fn spread_node<'a, G: Links<'a>>(
 pub(crate) fn settle_all<'a, G: Links<'a>>(
     links: &mut G,
     query: &Query,
-    asked: &Asked,
+    asked: &Asked<'_>,
     labels: &mut Labels,
     waiting: &mut Waiting,
     done: &mut [bool],
