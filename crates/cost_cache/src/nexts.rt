@@ -11,7 +11,7 @@ ghost use Rattle.cost_cache.specs.Hops.{AreEnds, IsTightNext, IsFirstNext, IsNex
 use crate::ends::ends_of;
 use crate::kept::Next;
 use dom_base::{Addr, Label, NoMemory, Query, Seed};
-use path_constraints::{allows, weight};
+use path_constraints::{Prepared, weight};
 use path_search::Labels;
 use std::alloc::Global;
 use te_links::Links;
@@ -21,6 +21,7 @@ use te_links::Links;
 fn tight_next<'a, G: Links<'a>>(
     links: &mut G,
     query: &Query,
+    prepared: &Prepared<'_>,
     labels: &Labels,
     place: u32,
     _node: Addr,
@@ -32,6 +33,7 @@ fn tight_next<'a, G: Links<'a>>(
     requires node { AdmitsNode (G.rows links.old) query.now _node }
     requires place { slice_get (G.rows links.old).nodes place ≡ Some _node }
     requires begins { LinkBeginsAt (G.rows links.old).nodes (G.rows links.old).links place index }
+    requires prepared { prepared.now ≡ query.now }
     ensures next { MatchOption result (IsLoose (G.rows links.old) query.now labels.now _node label.now index) (IsTightNext (G.rows links.old) query.now labels.now _node label.now index) }
     ensures same { G.rows links.new ≡ G.rows links.old }
 {
@@ -44,7 +46,7 @@ fn tight_next<'a, G: Links<'a>>(
     if part < whole
         && rest.exit == label.exit
         && whole - part == weight(link, query.metric)
-        && allows(query, link)
+        && prepared.allows(link)
     {
         Some(Next {
             far: link.far,
@@ -59,6 +61,7 @@ fn tight_next<'a, G: Links<'a>>(
 fn first_next<'a, G: Links<'a>>(
     links: &mut G,
     query: &Query,
+    prepared: &Prepared<'_>,
     labels: &Labels,
     place: u32,
     node: Addr,
@@ -67,13 +70,14 @@ fn first_next<'a, G: Links<'a>>(
     requires labels { AreOpen (G.rows links.old) query.now labels.now }
     requires node { AdmitsNode (G.rows links.old) query.now node }
     requires place { slice_get (G.rows links.old).nodes place ≡ Some node }
+    requires prepared { prepared.now ≡ query.now }
     ensures next { IsFirstNext (G.rows links.old) query.now labels.now node label.now result }
     ensures same { G.rows links.new ≡ G.rows links.old }
     ensures order { IsInOrder (G.rows links.old) }
 {
     let leaving = links.links_from(place);
     for index in leaving {
-        if let Some(next) = tight_next(links, query, labels, place, node, label, *index) {
+        if let Some(next) = tight_next(links, query, prepared, labels, place, node, label, *index) {
             return Some(next);
         }
     }
@@ -84,6 +88,7 @@ fn first_next<'a, G: Links<'a>>(
 fn next_of<'a, G: Links<'a>>(
     links: &mut G,
     query: &Query,
+    prepared: &Prepared<'_>,
     _seeds: &[Seed],
     labels: &Labels,
     ends: &[bool],
@@ -92,6 +97,7 @@ fn next_of<'a, G: Links<'a>>(
     requires labels { AreLabels (G.rows links.old) query.now _seeds.now labels.now }
     requires ends { AreEnds (G.rows links.old) _seeds.now labels.now ends.now }
     requires place { place < length (G.rows links.old).nodes }
+    requires prepared { prepared.now ≡ query.now }
     ensures next { IsNextAt (G.rows links.old) query.now _seeds.now labels.now place result }
     ensures same { G.rows links.new ≡ G.rows links.old }
 {
@@ -102,7 +108,7 @@ fn next_of<'a, G: Links<'a>>(
         return None;
     };
     let node = links.node_at(place);
-    first_next(links, query, labels, place, node, &label)
+    first_next(links, query, prepared, labels, place, node, &label)
 }
 
 /// The next link of the chosen segment of each node with a label: of the links from the node, each
@@ -119,9 +125,10 @@ pub(crate) fn nexts_of<'a, G: Links<'a>>(
     ensures same { G.rows links.new ≡ G.rows links.old }
 {
     let ends = ends_of(alloc, links, seeds, labels)?;
+    let prepared = Prepared::of(alloc, query)?;
     let mut nexts = Vec::new(alloc);
     for place in 0..links.node_count() {
-        nexts.push(next_of(links, query, seeds, labels, &ends, place))?;
+        nexts.push(next_of(links, query, &prepared, seeds, labels, &ends, place))?;
     }
     Ok(nexts)
 }

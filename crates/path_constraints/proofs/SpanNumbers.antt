@@ -62,14 +62,14 @@ module _ (p length first last : ℕ) where
   span_v4 small begins ends (V4 n) = elim (cases_lt n (2 ^ 32)) [
     | inl low ↦ (
       λ within.
-        let lo : first ≤ n = omega (arith, at_first, rank_of_v4 n low, within.0) in
-        let hi : n ≤ last = omega (arith, at_last, rank_of_v4 n low, within.1) in
-        (between 32 (32 - length) p n (omega arith) small low).0 (subst (λ (k : ℕ). k ≤ n) begins lo, subst (λ (k : ℕ). n ≤ k) (ends ∙ ap (λ (k : ℕ). min (k + (2 ^ (32 - length) - 1)) (2 ^ 32 - 1)) begins) hi),
+          let lo : first ≤ n = omega (arith, at_first, rank_of_v4 n low, within.0) in
+          let hi : n ≤ last = omega (arith, at_last, rank_of_v4 n low, within.1) in
+          (between 32 (32 - length) p n (omega arith) small low).0 (subst (λ (k : ℕ). k ≤ n) begins lo, subst (λ (k : ℕ). n ≤ k) (ends ∙ ap (λ (k : ℕ). min (k + (2 ^ (32 - length) - 1)) (2 ^ 32 - 1)) begins) hi),
       λ lies.
-        let both = (between 32 (32 - length) p n (omega arith) small low).1 lies in
-        let lo : first ≤ n = subst (λ (k : ℕ). k ≤ n) (sym begins) both.0 in
-        let hi : n ≤ last = subst (λ (k : ℕ). n ≤ k) (sym (ends ∙ ap (λ (k : ℕ). min (k + (2 ^ (32 - length) - 1)) (2 ^ 32 - 1)) begins)) both.1 in
-        (omega (arith, at_first, rank_of_v4 n low, lo), omega (arith, at_last, rank_of_v4 n low, hi)),
+          let both = (between 32 (32 - length) p n (omega arith) small low).1 lies in
+          let lo : first ≤ n = subst (λ (k : ℕ). k ≤ n) (sym begins) both.0 in
+          let hi : n ≤ last = subst (λ (k : ℕ). n ≤ k) (sym (ends ∙ ap (λ (k : ℕ). min (k + (2 ^ (32 - length) - 1)) (2 ^ 32 - 1)) begins)) both.1 in
+          (omega (arith, at_first, rank_of_v4 n low, lo), omega (arith, at_last, rank_of_v4 n low, hi)),
     )
     | inr high ↦ (
       λ within. absurd (omega (arith, at_last, far_v4 n high, below_last, within.1)),
@@ -100,14 +100,14 @@ module _ (p length first last : ℕ) where
   span_v6 small begins ends (V6 n) = elim (cases_lt n (2 ^ 128)) [
     | inl low ↦ (
       λ within.
-        let lo : first ≤ n = omega (arith, at_first, rank_of_v6 n low, within.0) in
-        let hi : n ≤ last = omega (arith, at_last, rank_of_v6 n low, within.1) in
-        (between 128 (128 - length) p n (omega arith) small low).0 (subst (λ (k : ℕ). k ≤ n) begins lo, subst (λ (k : ℕ). n ≤ k) (ends ∙ ap (λ (k : ℕ). min (k + (2 ^ (128 - length) - 1)) (2 ^ 128 - 1)) begins) hi),
+          let lo : first ≤ n = omega (arith, at_first, rank_of_v6 n low, within.0) in
+          let hi : n ≤ last = omega (arith, at_last, rank_of_v6 n low, within.1) in
+          (between 128 (128 - length) p n (omega arith) small low).0 (subst (λ (k : ℕ). k ≤ n) begins lo, subst (λ (k : ℕ). n ≤ k) (ends ∙ ap (λ (k : ℕ). min (k + (2 ^ (128 - length) - 1)) (2 ^ 128 - 1)) begins) hi),
       λ lies.
-        let both = (between 128 (128 - length) p n (omega arith) small low).1 lies in
-        let lo : first ≤ n = subst (λ (k : ℕ). k ≤ n) (sym begins) both.0 in
-        let hi : n ≤ last = subst (λ (k : ℕ). n ≤ k) (sym (ends ∙ ap (λ (k : ℕ). min (k + (2 ^ (128 - length) - 1)) (2 ^ 128 - 1)) begins)) both.1 in
-        (omega (arith, at_first, rank_of_v6 n low, lo), omega (arith, at_last, rank_of_v6 n low, hi)),
+          let both = (between 128 (128 - length) p n (omega arith) small low).1 lies in
+          let lo : first ≤ n = subst (λ (k : ℕ). k ≤ n) (sym begins) both.0 in
+          let hi : n ≤ last = subst (λ (k : ℕ). n ≤ k) (sym (ends ∙ ap (λ (k : ℕ). min (k + (2 ^ (128 - length) - 1)) (2 ^ 128 - 1)) begins)) both.1 in
+          (omega (arith, at_first, rank_of_v6 n low, lo), omega (arith, at_last, rank_of_v6 n low, hi)),
     )
     | inr high ↦ (
       λ within. absurd (omega (arith, at_last, far_v6 n high, below_last, within.1)),

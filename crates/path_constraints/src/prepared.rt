@@ -78,8 +78,7 @@ impl<'a> Prepared<'a> {
     fn names_link(&self, link: &Link) -> bool
         ensures { IsTrue result ↔ BarsLink self.now link.now }
     {
-        begins_or_ends(self.links.as_slice(), link)
-            || has_risk(&self.risks, link.srlgs.as_slice())
+        begins_or_ends(self.links.as_slice(), link) || has_risk(&self.risks, link.srlgs.as_slice())
     }
 
     /// Whether an exclusion of the query bars a link, as `bars_link` tells it.

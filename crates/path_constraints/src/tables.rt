@@ -48,11 +48,7 @@ fn each_span(alloc: Global, list: &[Exclusion], kind: u8) -> Result<Vec<Span>, N
 }
 
 /// The addresses that demands exclude by prefixes with this attribute, as spans in order.
-pub(crate) fn spans_of(
-    alloc: Global,
-    list: &[Exclusion],
-    kind: u8,
-) -> Result<Vec<Span>, NoMemory>
+pub(crate) fn spans_of(alloc: Global, list: &[Exclusion], kind: u8) -> Result<Vec<Span>, NoMemory>
     ensures rising { IfOk result (λ spans. AreRising spans.items) }
     ensures covers { IfOk result (λ spans. (a : Addr) → Covers spans.items a ↔ SomeDemands (NamesAddr kind a) list.now) }
 {

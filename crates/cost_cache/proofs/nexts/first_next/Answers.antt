@@ -25,7 +25,7 @@ tight_next-requires g c κs =
             subst (λ (h : Rows). AdmitsNode h c.args.query.now c.args.node) (sym inv.same) c.requires.node,
             (
               subst (λ (h : Rows). slice_get h.nodes c.args.place ≡ Some c.args.node) (sym inv.same) c.requires.place,
-              subst (λ (h : Rows). LinkBeginsAt h.nodes h.links c.args.place p) (sym inv.same) begins,
+              (subst (λ (h : Rows). LinkBeginsAt h.nodes h.links c.args.place p) (sym inv.same) begins, c.requires.prepared),
             ),
           ),
         ),

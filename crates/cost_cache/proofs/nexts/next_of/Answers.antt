@@ -13,7 +13,7 @@ first_next-requires g c κs =
     let rows = g.G.Links.rows c.args.links.now in
     let opened : AreOpen rows c.args.query.now c.args.labels.now = are_open rows c.args.query.now c.args._seeds.now c.args.labels.now c.requires.labels in (
       (refl, tt),
-      (opened, (opened.admitted c.args.place c.node_at-node.result c.in-Some.label c.node_at-node.ensures (sym c.in-Some.ensures), c.node_at-node.ensures)),
+      (opened, (opened.admitted c.args.place c.node_at-node.result c.in-Some.label c.node_at-node.ensures (sym c.in-Some.ensures), (c.node_at-node.ensures, c.requires.prepared))),
     )
 
 pub returns-clause-next : goal.returns-clause-next

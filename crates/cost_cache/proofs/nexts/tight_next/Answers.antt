@@ -6,6 +6,7 @@ use Rattle.dom_base.proofs.Ranks.{same_addr}
 use Rattle.dom_base.specs.Admission.{Allows}
 use Rattle.dom_base.specs.declared.link.Link.{Link}
 use Rattle.dom_base.specs.declared.query.Label.{Label}
+use Rattle.dom_base.specs.declared.query.Query.{Query}
 use Rattle.te_links.specs.Rows.{IsInnerLink}
 use Rattle.std.proofs.lemmas.List.Elements.{All-contains}
 use Rattle.path_search.specs.Segments.{IsTightAt}
@@ -38,7 +39,7 @@ returns-then-allows-clause-next g c =
     let a = c.args.label.now in
     let n = c.args._node in
     let begins = c.requires.begins in
-    let allowed : Allows q l = search rules in
+    let allowed : Allows q l = subst (λ (r : Query). Allows r l) c.requires.prepared (c.if-allows.ensures.0 refl) in
     let exits : rank rest.exit ≡ rank a.exit = search rules in
     let links : Some l ≡ Some begins.link = sym read.ensures.link ∙ begins.at_link in
     let same : l ≡ begins.link = cc in
@@ -87,7 +88,7 @@ returns-else-part-whole-clause-next g c =
     let exits : c.in-Some.rest.exit ≡ other.exit = ap (λ (b : Label). b.exit) same in
     let bounds = weight_bounds rows.nodes q.metric l (All-contains (IsInnerLink rows.nodes) rows.links l c.requires.rules.links (contains_at rows.links c.args.index l read.ensures.link)) in
     elim c.else-part-whole.branch [
-      | else-part-whole-via-then-part-whole+then-eq+then-whole-part+else-allows w ↦ let bad : false ≡ true = w.if-allows.ensures.1 allowed in cc
+      | else-part-whole-via-then-part-whole+then-eq+then-whole-part+else-allows w ↦ let bad : false ≡ true = w.if-allows.ensures.1 (subst (λ (r : Query). Allows r l) (sym c.requires.prepared) allowed) in cc
       | else-part-whole-via-then-part-whole+then-eq+else-whole-part w ↦ omega (arith, costs, sum, w.weight.ensures, c.get-whole.ensures.number, c.get-part.ensures.number, w.if-part-whole.true, w.if-whole-part.false)
       | else-part-whole-via-then-part-whole+else-eq w ↦ differ (rank c.in-Some.rest.exit) (rank a.exit) w.if-eq.ensures (ap rank (exits ∙ sym exit))
       | else-part-whole-via-else-part-whole w ↦ omega (arith, costs, sum, bounds.0, c.get-whole.ensures.number, c.get-part.ensures.number, w.if-part-whole.false)
