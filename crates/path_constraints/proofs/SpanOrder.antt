@@ -1,6 +1,6 @@
 -- Spans in order: which has an address, and what one more span adds.
 use Rattle.std.proofs.Common.{◌≡◌, ◌⊎◌, ◌∙◌, ◌<◌, ◌≤◌, ◌+◌, ◌-◌, ◌++◌, ◌∷◌, ◌==◌, cond, ℕ, List, [], length, get_or, take, Bool, true, false, inl, inr, refl, sym, ap, subst, arith}
-use Rattle.std.specs.Prelude.{◌↔◌, Contains, IsPermutation}
+use Rattle.std.specs.Prelude.{◌↔◌, IsPermutation}
 use Rattle.std.specs.List.Sorted.{IsNonDecreasingBy, IsSorted}
 use Rattle.std.specs.declared.cmp.Ordering.{Ordering}
 use Rattle.std.specs.declared.cmp.Ordering.TheVariants.{Less, Equal, Greater}

@@ -1,5 +1,5 @@
 -- What the tables of exclusions tell of links and nodes.
-use Rattle.std.proofs.Common.{◌≡◌, ◌⊎◌, ◌<◌, ℕ, Bool, true, false, List, length, inl, inr, refl, sym, subst, arith}
+use Rattle.std.proofs.Common.{◌≡◌, ◌⊎◌, ℕ, Bool, true, List, length, inl, inr, refl, sym, subst, arith}
 use Rattle.std.specs.Prelude.{◌↔◌, Contains}
 use Rattle.std.specs.BTreeSet.{BTreeSet, contains}
 use Rattle.std.specs.Ordering.{nat_cmp}
@@ -7,12 +7,11 @@ use Rattle.dom_base.specs.declared.addr.Addr.{Addr}
 use Rattle.dom_base.specs.declared.link.Link.{Link}
 use Rattle.dom_base.specs.declared.names.As.{As}
 use Rattle.dom_base.specs.declared.query.Query.{Query}
-use Rattle.dom_base.specs.declared.query.Exclusion.{Exclusion}
 use Rattle.dom_base.specs.declared.query.Excluded.{Excluded}
 use Rattle.dom_base.specs.declared.query.Excluded.TheVariants.{Prefix, AsNumber, Srlg, Other}
 use Rattle.dom_base.specs.Admission.{LiesIn, NamesLink, NamesNode, BarsLink, BarsNode}
 use Rattle.path_constraints.specs.Spans.{Covers}
-use Rattle.path_constraints.specs.Tables.{NamesAddr, NamesRisk, NamesDomain, Demands, SomeDemands, AreTables}
+use Rattle.path_constraints.specs.Tables.{NamesAddr, NamesRisk, NamesDomain, AreTables}
 
 -- ---- one exclusion
 

@@ -1,5 +1,5 @@
 -- Spans of addresses, each from its first address to its last.
-use Rattle.std.specs.Prelude.{◌<◌, ◌≤◌, ◌+◌, ◌-◌, ℕ, List, length, Contains, slice_index_or}
+use Rattle.std.specs.Prelude.{◌<◌, ◌≤◌, ◌-◌, ℕ, List, length, Contains, slice_index_or}
 use Rattle.std.specs.List.Sorted.{IsNonDecreasingBy}
 use Rattle.dom_base.specs.AddrOrder.{rank}
 use Rattle.dom_base.specs.declared.addr.Addr.{Addr}

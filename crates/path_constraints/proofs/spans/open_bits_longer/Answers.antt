@@ -1,4 +1,4 @@
-use Rattle.std.proofs.Common.{◌≤◌, arith}
+use Rattle.std.proofs.Common.{arith}
 use Rattle.std.proofs.lemmas.Nat.Bits.{ones_shr}
 use Rattle.path_constraints.proofs.spans.open_bits_longer.Goals as goal
 

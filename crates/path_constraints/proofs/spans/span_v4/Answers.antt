@@ -1,4 +1,4 @@
-use Rattle.std.proofs.Common.{◌≡◌, ◌∙◌, ◌+◌, ◌-◌, ◌^◌, ℕ, bit_and, min, ap}
+use Rattle.std.proofs.Common.{◌∙◌, ◌+◌, ◌-◌, ◌^◌, ℕ, bit_and, min, ap}
 use Rattle.std.proofs.lemmas.Nat.{and_mask}
 use Rattle.path_constraints.proofs.SpanNumbers.{span_v4}
 use Rattle.path_constraints.proofs.spans.span_v4.Goals as goal

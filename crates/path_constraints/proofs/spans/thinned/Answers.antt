@@ -1,4 +1,4 @@
-use Rattle.std.proofs.Common.{◌≡◌, ◌≤◌, ◌+◌, List, get_or, ap, subst, arith}
+use Rattle.std.proofs.Common.{◌≤◌, ◌+◌, List, get_or, subst, arith}
 use Rattle.std.specs.Prelude.{◌↔◌}
 use Rattle.std.proofs.lemmas.List.{get_or_default, take_more, take_all}
 use Rattle.dom_base.specs.AddrOrder.{rank}

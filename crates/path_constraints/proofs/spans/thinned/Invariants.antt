@@ -1,4 +1,4 @@
-use Rattle.std.proofs.Common.{◌≤◌, ◌<◌, length, get_or, take}
+use Rattle.std.proofs.Common.{◌<◌, length, get_or, take}
 use Rattle.std.specs.Prelude.{◌↔◌}
 use Rattle.dom_base.specs.declared.addr.Addr.{Addr}
 use Rattle.path_constraints.specs.Spans.{Covers, AreRising, LeadsTo}

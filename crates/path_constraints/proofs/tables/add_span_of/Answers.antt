@@ -1,5 +1,4 @@
 use Rattle.std.proofs.Common.{◌⊎◌, inl, inr}
-use Rattle.dom_base.specs.declared.addr.Addr.{Addr}
 use Rattle.path_constraints.specs.Spans.{Covers}
 use Rattle.path_constraints.specs.Tables.{NamesAddr, Demands}
 use Rattle.path_constraints.proofs.tables.add_span_of.Goals as goal

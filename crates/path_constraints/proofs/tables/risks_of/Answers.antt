@@ -1,12 +1,10 @@
-use Rattle.std.proofs.Common.{◌≡◌, ◌∙◌, ◌+◌, ◌++◌, ◌∷◌, [], ℕ, true, List, take, sym, ap, subst, arith}
+use Rattle.std.proofs.Common.{◌≡◌, ◌∙◌, ◌+◌, ◌++◌, ◌∷◌, [], true, List, take, sym, ap, subst}
 use Rattle.std.specs.Prelude.{◌↔◌}
 use Rattle.std.specs.BTreeSet.{contains}
 use Rattle.std.specs.Ordering.{nat_cmp}
 use Rattle.std.proofs.lemmas.List.{take_more, take_all}
-use Rattle.dom_base.specs.declared.addr.Addr.{Addr}
 use Rattle.dom_base.specs.declared.query.Exclusion.{Exclusion}
-use Rattle.path_constraints.specs.Spans.{Covers}
-use Rattle.path_constraints.specs.Tables.{NamesAddr, NamesRisk, SomeDemands}
+use Rattle.path_constraints.specs.Tables.{NamesRisk, SomeDemands}
 use Rattle.path_constraints.proofs.Demanded.{demands_more}
 use Rattle.path_constraints.proofs.tables.risks_of.Goals as goal
 

@@ -13,7 +13,7 @@ returns-then-begins_or_ends c =
     let l = c.args.link.now in (
       λ _. interface_bars c.args.self.now held.query.now held.links.items held.nodes.items held.risks held.domain c.self.view_is c.self.invariant l
           (subst (λ (spans : List (Addr × Addr)). Covers spans l.near ⊎ Covers spans l.far) c.as_slice.ensures.value (c.if-begins_or_ends.ensures.0 refl)),
-      λ _. refl,
+      λ _. c.if-begins_or_ends.true,
     )
 
 pub returns-else-begins_or_ends : goal.returns-else-begins_or_ends

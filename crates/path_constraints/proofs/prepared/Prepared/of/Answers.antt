@@ -1,8 +1,7 @@
-use Rattle.std.proofs.Common.{◌≡◌, ℕ, true, List, subst}
+use Rattle.std.proofs.Common.{◌≡◌, true, List, subst}
 use Rattle.std.specs.Prelude.{◌↔◌}
 use Rattle.std.specs.BTreeSet.{contains}
 use Rattle.std.specs.Ordering.{nat_cmp}
-use Rattle.dom_base.specs.declared.addr.Addr.{Addr}
 use Rattle.dom_base.specs.declared.query.Exclusion.{Exclusion}
 use Rattle.path_constraints.specs.Spans.{Covers}
 use Rattle.path_constraints.specs.Tables.{NamesAddr, NamesRisk, NamesDomain, SomeDemands}
