@@ -53,7 +53,7 @@ pub(crate) fn arc_of<'a, G: Links<'a>>(
     links: &G,
     arrivals: &Arrivals<'a>,
     query: &Query,
-    asked: &Asked,
+    asked: &Asked<'_>,
     labels: &Labels,
     head: u32,
     k: usize,
