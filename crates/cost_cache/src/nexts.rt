@@ -20,7 +20,6 @@ use te_links::Links;
 // node's label. Most links are ruled out by the label of their end alone.
 fn tight_next<'a, G: Links<'a>>(
     links: &mut G,
-    query: &Query,
     prepared: &Prepared<'_>,
     labels: &Labels,
     place: u32,
@@ -29,14 +28,14 @@ fn tight_next<'a, G: Links<'a>>(
     index: u32,
 ) -> Option<Next>
     requires rules { IsTopology (G.rows links.old) }
-    requires labels { AreOpen (G.rows links.old) query.now labels.now }
-    requires node { AdmitsNode (G.rows links.old) query.now _node }
+    requires labels { AreOpen (G.rows links.old) prepared.now labels.now }
+    requires node { AdmitsNode (G.rows links.old) prepared.now _node }
     requires place { slice_get (G.rows links.old).nodes place ≡ Some _node }
     requires begins { LinkBeginsAt (G.rows links.old).nodes (G.rows links.old).links place index }
-    requires prepared { prepared.now ≡ query.now }
-    ensures next { MatchOption result (IsLoose (G.rows links.old) query.now labels.now _node label.now index) (IsTightNext (G.rows links.old) query.now labels.now _node label.now index) }
+    ensures next { MatchOption result (IsLoose (G.rows links.old) prepared.now labels.now _node label.now index) (IsTightNext (G.rows links.old) prepared.now labels.now _node label.now index) }
     ensures same { G.rows links.new ≡ G.rows links.old }
 {
+    let query = prepared.query();
     let (link, head) = links.link_with_head(index);
     let Some(rest) = labels.at(head) else {
         return None;
@@ -60,24 +59,22 @@ fn tight_next<'a, G: Links<'a>>(
 // The first tight link from the node at a place.
 fn first_next<'a, G: Links<'a>>(
     links: &mut G,
-    query: &Query,
     prepared: &Prepared<'_>,
     labels: &Labels,
     place: u32,
     node: Addr,
     label: &Label,
 ) -> Option<Next>
-    requires labels { AreOpen (G.rows links.old) query.now labels.now }
-    requires node { AdmitsNode (G.rows links.old) query.now node }
+    requires labels { AreOpen (G.rows links.old) prepared.now labels.now }
+    requires node { AdmitsNode (G.rows links.old) prepared.now node }
     requires place { slice_get (G.rows links.old).nodes place ≡ Some node }
-    requires prepared { prepared.now ≡ query.now }
-    ensures next { IsFirstNext (G.rows links.old) query.now labels.now node label.now result }
+    ensures next { IsFirstNext (G.rows links.old) prepared.now labels.now node label.now result }
     ensures same { G.rows links.new ≡ G.rows links.old }
     ensures order { IsInOrder (G.rows links.old) }
 {
     let leaving = links.links_from(place);
     for index in leaving {
-        if let Some(next) = tight_next(links, query, prepared, labels, place, node, label, *index) {
+        if let Some(next) = tight_next(links, prepared, labels, place, node, label, *index) {
             return Some(next);
         }
     }
@@ -87,18 +84,16 @@ fn first_next<'a, G: Links<'a>>(
 // The next link of the node at a place, if it has a label and its segment goes on.
 fn next_of<'a, G: Links<'a>>(
     links: &mut G,
-    query: &Query,
     prepared: &Prepared<'_>,
     _seeds: &[Seed],
     labels: &Labels,
     ends: &[bool],
     place: u32,
 ) -> Option<Next>
-    requires labels { AreLabels (G.rows links.old) query.now _seeds.now labels.now }
+    requires labels { AreLabels (G.rows links.old) prepared.now _seeds.now labels.now }
     requires ends { AreEnds (G.rows links.old) _seeds.now labels.now ends.now }
     requires place { place < length (G.rows links.old).nodes }
-    requires prepared { prepared.now ≡ query.now }
-    ensures next { IsNextAt (G.rows links.old) query.now _seeds.now labels.now place result }
+    ensures next { IsNextAt (G.rows links.old) prepared.now _seeds.now labels.now place result }
     ensures same { G.rows links.new ≡ G.rows links.old }
 {
     if ends[place as usize] {
@@ -108,7 +103,7 @@ fn next_of<'a, G: Links<'a>>(
         return None;
     };
     let node = links.node_at(place);
-    first_next(links, query, prepared, labels, place, node, &label)
+    first_next(links, prepared, labels, place, node, &label)
 }
 
 /// The next link of the chosen segment of each node with a label: of the links from the node, each
@@ -128,7 +123,7 @@ pub(crate) fn nexts_of<'a, G: Links<'a>>(
     let prepared = Prepared::of(alloc, query)?;
     let mut nexts = Vec::new(alloc);
     for place in 0..links.node_count() {
-        nexts.push(next_of(links, query, &prepared, seeds, labels, &ends, place))?;
+        nexts.push(next_of(links, &prepared, seeds, labels, &ends, place))?;
     }
     Ok(nexts)
 }

@@ -69,7 +69,7 @@ pub(crate) fn arc_of<'a, G: Links<'a>>(
     if !labels.lowers(query.cap, arc) {
         return None;
     }
-    if !allows_link(asked, query, arrivals.row(k)) || bars_ends(asked, arc.tail, arc.head) {
+    if !allows_link(asked, arrivals.row(k)) || bars_ends(asked, arc.tail, arc.head) {
         return None;
     }
     Some(arc)

@@ -64,10 +64,9 @@ pub(crate) fn asked_by<'a, 'q, G: Links<'a>>(
 }
 
 /// Whether the query allows a link: its row is looked at only where something is asked.
-pub(crate) fn allows_link(asked: &Asked<'_>, _query: &Query, link: &Link) -> bool
-    requires free { asked.now.free ≡ true → (l : Link) → Allows _query.now l }
-    requires prepared { asked.now.prepared ≡ _query.now }
-    ensures { IsTrue result ↔ Allows _query.now link.now }
+pub(crate) fn allows_link(asked: &Asked<'_>, link: &Link) -> bool
+    requires { asked.now.free ≡ true → (l : Link) → Allows asked.now.prepared l }
+    ensures { IsTrue result ↔ Allows asked.now.prepared link.now }
 {
     asked.free || asked.prepared.allows(link)
 }

@@ -20,12 +20,12 @@ tight_next-requires g c κs =
       (
         subst IsTopology (sym inv.same) c.links_from-leaving.ensures.rules,
         (
-          subst (λ (h : Rows). AreOpen h c.args.query.now c.args.labels.now) (sym inv.same) c.requires.labels,
+          subst (λ (h : Rows). AreOpen h c.args.prepared.now c.args.labels.now) (sym inv.same) c.requires.labels,
           (
-            subst (λ (h : Rows). AdmitsNode h c.args.query.now c.args.node) (sym inv.same) c.requires.node,
+            subst (λ (h : Rows). AdmitsNode h c.args.prepared.now c.args.node) (sym inv.same) c.requires.node,
             (
               subst (λ (h : Rows). slice_get h.nodes c.args.place ≡ Some c.args.node) (sym inv.same) c.requires.place,
-              (subst (λ (h : Rows). LinkBeginsAt h.nodes h.links c.args.place p) (sym inv.same) begins, c.requires.prepared),
+              subst (λ (h : Rows). LinkBeginsAt h.nodes h.links c.args.place p) (sym inv.same) begins,
             ),
           ),
         ),
@@ -39,11 +39,11 @@ returns-in-Some-clause-next g c =
     let leaving = c.links_from-leaving.result.now in
     let k = c.loop-index.index-index in
     let p = slice_index_or leaving k 0 in
-    let tight : IsTightNext rows c.args.query.now c.args.labels.now c.args.node c.args.label.now p c.in-Some.next =
-    subst (λ (h : Rows). IsTightNext h c.args.query.now c.args.labels.now c.args.node c.args.label.now p c.in-Some.next) inv.same c.in-Some.ensures.next in (
+    let tight : IsTightNext rows c.args.prepared.now c.args.labels.now c.args.node c.args.label.now p c.in-Some.next =
+    subst (λ (h : Rows). IsTightNext h c.args.prepared.now c.args.labels.now c.args.node c.args.label.now p c.in-Some.next) inv.same c.in-Some.ensures.next in (
       p,
       tight,
-      λ i below. loose_up_to rows c.args.query.now c.args.labels.now c.args.node c.args.label.now c.args.place leaving k
+      λ i below. loose_up_to rows c.args.prepared.now c.args.labels.now c.args.node c.args.label.now c.args.place leaving k
           c.links_from-leaving.ensures.places c.requires.place c.loop-index-test.true inv.loose i below,
     )
 
@@ -53,8 +53,8 @@ loop-index-preserved g c =
     let inv = c.loop-index.invariant in
     let leaving = c.links_from-leaving.result.now in
     let k = c.loop-index.index-index in
-    let Loose : ℕ → Type 0 = λ j. IsLoose rows c.args.query.now c.args.labels.now c.args.node c.args.label.now (slice_index_or leaving j 0) in
-    let here : Loose k = subst (λ (h : Rows). IsLoose h c.args.query.now c.args.labels.now c.args.node c.args.label.now (slice_index_or leaving k 0)) inv.same c.in_default.ensures.next in
+    let Loose : ℕ → Type 0 = λ j. IsLoose rows c.args.prepared.now c.args.labels.now c.args.node c.args.label.now (slice_index_or leaving j 0) in
+    let here : Loose k = subst (λ (h : Rows). IsLoose h c.args.prepared.now c.args.labels.now c.args.node c.args.label.now (slice_index_or leaving k 0)) inv.same c.in_default.ensures.next in
     record {
       loose = below_more Loose k inv.loose here;
       same = c.tight_next.ensures.same ∙ inv.same;
@@ -62,5 +62,5 @@ loop-index-preserved g c =
 
 pub returns-clause-next : goal.returns-clause-next
 returns-clause-next g c =
-    loose_all (g.G.Links.rows c.args.links.now) c.args.query.now c.args.labels.now c.args.node c.args.label.now c.args.place c.links_from-leaving.result.now c.loop-index.index-index
+    loose_all (g.G.Links.rows c.args.links.now) c.args.prepared.now c.args.labels.now c.args.node c.args.label.now c.args.place c.links_from-leaving.result.now c.loop-index.index-index
     c.links_from-leaving.ensures.places c.requires.place c.loop-index-test.false c.loop-index.invariant.loose

@@ -11,15 +11,15 @@ use Rattle.cost_cache.proofs.nexts.next_of.Goals as goal
 pub first_next-requires : goal.first_next-requires
 first_next-requires g c κs =
     let rows = g.G.Links.rows c.args.links.now in
-    let opened : AreOpen rows c.args.query.now c.args.labels.now = are_open rows c.args.query.now c.args._seeds.now c.args.labels.now c.requires.labels in (
+    let opened : AreOpen rows c.args.prepared.now c.args.labels.now = are_open rows c.args.prepared.now c.args._seeds.now c.args.labels.now c.requires.labels in (
       (refl, tt),
-      (opened, (opened.admitted c.args.place c.node_at-node.result c.in-Some.label c.node_at-node.ensures (sym c.in-Some.ensures), (c.node_at-node.ensures, c.requires.prepared))),
+      (opened, (opened.admitted c.args.place c.node_at-node.result c.in-Some.label c.node_at-node.ensures (sym c.in-Some.ensures), c.node_at-node.ensures)),
     )
 
 pub returns-clause-next : goal.returns-clause-next
 returns-clause-next g c = λ n a at_n at_a.
     let rows = g.G.Links.rows c.args.links.now in
-    let q = c.args.query.now in
+    let q = c.args.prepared.now in
     let seeds = c.args._seeds.now in
     let labels = c.args.labels.now in
     let node = c.node_at-node.result in

@@ -1,4 +1,5 @@
 use Rattle.std.proofs.Common.{◌≡◌, ◌∙◌, subst, arith, length}
+use Rattle.dom_base.specs.declared.query.Query.{Query}
 use Rattle.te_links.specs.Rows.{Rows}
 use Rattle.cost_cache.specs.Hops.{AreNextsUpTo, IsNextAt}
 use Rattle.cost_cache.proofs.Hopping.{next_more, nexts_are}
@@ -12,7 +13,9 @@ loop-place-preserved g c =
     let labels = c.args.labels.now in
     let inv = c.loop-place.invariant in
     let i = c.loop-place.place in
-    let is : IsNextAt rows q seeds labels i c.next_of.result = subst (λ (h : Rows). IsNextAt h q seeds labels i c.next_of.result) inv.same c.next_of.ensures.next in
+    let asked : IsNextAt (g.G.Links.rows c.loop-place.links) q seeds labels i c.next_of.result =
+    subst (λ (r : Query). IsNextAt (g.G.Links.rows c.loop-place.links) r seeds labels i c.next_of.result) c.in_ok-prepared.ensures c.next_of.ensures.next in
+    let is : IsNextAt rows q seeds labels i c.next_of.result = subst (λ (h : Rows). IsNextAt h q seeds labels i c.next_of.result) inv.same asked in
     record {
       same = c.next_of.ensures.same ∙ inv.same;
       nexts = rw c.in_ok-push.ensures.items (next_more rows q seeds labels i c.loop-place.nexts.items c.next_of.result inv.nexts is);

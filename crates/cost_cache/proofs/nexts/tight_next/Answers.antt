@@ -3,7 +3,7 @@ use Rattle.std.specs.Prelude.{slice_get}
 use Rattle.std.proofs.lemmas.Bool.Decides.{eqb_tells}
 use Rattle.dom_base.specs.AddrOrder.{rank}
 use Rattle.dom_base.proofs.Ranks.{same_addr}
-use Rattle.dom_base.specs.Admission.{Allows}
+use Rattle.dom_base.specs.Admission.{Allows, weight}
 use Rattle.dom_base.specs.declared.link.Link.{Link}
 use Rattle.dom_base.specs.declared.query.Label.{Label}
 use Rattle.dom_base.specs.declared.query.Query.{Query}
@@ -25,21 +25,22 @@ returns-in_default-clause-next g c =
     let read = c.link_with_head-head in
     let l = read.result.0.now in
     let at_head : slice_get rows.nodes read.result.1 ≡ Some l.to = read.ensures.head in
-    not_made rows c.args.query.now c.args.labels.now c.args._node c.args.label.now c.args.index read.result.1 l
+    not_made rows c.args.prepared.now c.args.labels.now c.args._node c.args.label.now c.args.index read.result.1 l
     c.requires.rules read.ensures.link at_head
     (λ rest is sum exit. let none : None ≡ Some rest = c.in_default.ensures ∙ is in cc)
 
 pub returns-then-allows-clause-next : goal.returns-then-allows-clause-next
 returns-then-allows-clause-next g c =
     let rows = g.G.Links.rows c.args.links.now in
-    let q = c.args.query.now in
+    let q = c.args.prepared.now in
     let read = c.link_with_head-head in
     let l = read.result.0.now in
     let rest = c.in-Some.rest in
     let a = c.args.label.now in
     let n = c.args._node in
     let begins = c.requires.begins in
-    let allowed : Allows q l = subst (λ (r : Query). Allows r l) c.requires.prepared (c.if-allows.ensures.0 refl) in
+    let allowed : Allows q l = c.if-allows.ensures.0 refl in
+    let weighs : weight c.query-query.result.now.metric l ≡ weight q.metric l = ap (λ (r : Query). weight r.metric l) c.query-query.ensures in
     let exits : rank rest.exit ≡ rank a.exit = search rules in
     let links : Some l ≡ Some begins.link = sym read.ensures.link ∙ begins.at_link in
     let same : l ≡ begins.link = cc in
@@ -58,7 +59,7 @@ returns-then-allows-clause-next g c =
             (c.requires.labels.admitted read.result.1 l.to rest at_head (sym c.in-Some.ensures));
         at_head = at_head;
         label = sym c.in-Some.ensures;
-        sum = omega (arith, c.weight.ensures, c.get-whole.ensures.number, c.get-part.ensures.number, c.if-part-whole.true, c.if-whole-part.true);
+        sum = omega (arith, weighs, c.weight.ensures, c.get-whole.ensures.number, c.get-part.ensures.number, c.if-part-whole.true, c.if-whole-part.true);
         exit = same_addr a.exit rest.exit (sym exits);
       };
     } in
@@ -71,7 +72,7 @@ returns-then-allows-clause-next g c =
 pub returns-else-part-whole-clause-next : goal.returns-else-part-whole-clause-next
 returns-else-part-whole-clause-next g c =
     let rows = g.G.Links.rows c.args.links.now in
-    let q = c.args.query.now in
+    let q = c.args.prepared.now in
     let read = c.link_with_head-head in
     let l = read.result.0.now in
     let a = c.args.label.now in
@@ -79,6 +80,7 @@ returns-else-part-whole-clause-next g c =
     λ m place rest at_link makes.
     let links : Some l ≡ Some m = sym read.ensures.link ∙ at_link in
     let link : l ≡ m = cc in
+    let weighs : weight c.query-query.result.now.metric l ≡ weight q.metric l = ap (λ (r : Query). weight r.metric l) c.query-query.ensures in
     let allowed : Allows q l = subst (λ (k : Link). Allows q k) (sym link) makes.admitted.allowed in
     not_made rows q c.args.labels.now c.args._node a c.args.index read.result.1 l c.requires.rules read.ensures.link at_head
     (λ other is sum exit.
@@ -88,8 +90,8 @@ returns-else-part-whole-clause-next g c =
     let exits : c.in-Some.rest.exit ≡ other.exit = ap (λ (b : Label). b.exit) same in
     let bounds = weight_bounds rows.nodes q.metric l (All-contains (IsInnerLink rows.nodes) rows.links l c.requires.rules.links (contains_at rows.links c.args.index l read.ensures.link)) in
     elim c.else-part-whole.branch [
-      | else-part-whole-via-then-part-whole+then-eq+then-whole-part+else-allows w ↦ let bad : false ≡ true = w.if-allows.ensures.1 (subst (λ (r : Query). Allows r l) (sym c.requires.prepared) allowed) in cc
-      | else-part-whole-via-then-part-whole+then-eq+else-whole-part w ↦ omega (arith, costs, sum, w.weight.ensures, c.get-whole.ensures.number, c.get-part.ensures.number, w.if-part-whole.true, w.if-whole-part.false)
+      | else-part-whole-via-then-part-whole+then-eq+then-whole-part+else-allows w ↦ let bad : false ≡ true = w.if-allows.ensures.1 allowed in cc
+      | else-part-whole-via-then-part-whole+then-eq+else-whole-part w ↦ omega (arith, weighs, costs, sum, w.weight.ensures, c.get-whole.ensures.number, c.get-part.ensures.number, w.if-part-whole.true, w.if-whole-part.false)
       | else-part-whole-via-then-part-whole+else-eq w ↦ differ (rank c.in-Some.rest.exit) (rank a.exit) w.if-eq.ensures (ap rank (exits ∙ sym exit))
       | else-part-whole-via-else-part-whole w ↦ omega (arith, costs, sum, bounds.0, c.get-whole.ensures.number, c.get-part.ensures.number, w.if-part-whole.false)
     ])
