@@ -1,6 +1,7 @@
 #!/bin/sh
 # Times a search at the limits, 1,024 nodes and 8,192 inner links, beside a plain program in C over arrays, on the same four
-# topologies: many ties, metrics to 1,000, a grid, a line. Of 1,000 rounds the least counts, in microseconds, with the ratio.
+# topologies: many ties, metrics to 1,000, a grid, a line. `excluding` is the search with metrics to 1,000 again, with 256
+# exclusions that bar nothing, beside the same plain one. Of 1,000 rounds the least counts, in microseconds, with the ratio.
 # It makes a program in a copy of the repository, proves and builds it there, and runs it. The figures hold for the
 # machine and the moment alone: no clause speaks of time.
 # usage: bench/search.sh [PROGRAM]   (another program that prints such lines, put beside in place of the one in C)
@@ -149,15 +150,40 @@ cat >"$crate/src/main.rt" <<'RT'
 mod network;
 
 use crate::network::{Shape, topology};
-use dom_base::{Addr, As, Cost, List, Metric, NoMemory, Query, Seed};
+use dom_base::{Addr, As, Cost, Excluded, Exclusion, List, Metric, NoMemory, Query, Seed};
 use path_search::{Labels, search};
 use std::alloc::Global;
 use std::io;
 use std::time::Instant;
 use te_links::{Counted, Topology};
 
-fn query(alloc: Global, cap: Cost) -> Query {
-    Query {
+// Interfaces, nodes and shared risks that nothing has, in turn.
+fn excluded(n: u32) -> Excluded {
+    let addr = Addr::V4(0x0100_0000u32.wrapping_add(n.wrapping_mul(7)));
+    match n % 4 {
+        0 => Excluded::Srlg(n),
+        1 => Excluded::Prefix {
+            addr,
+            length: 32,
+            attribute: 1,
+        },
+        _ => Excluded::Prefix {
+            addr,
+            length: 32,
+            attribute: 0,
+        },
+    }
+}
+
+fn query(alloc: Global, cap: Cost, excluding: u32) -> Result<Query, NoMemory> {
+    let mut exclusions = List::new(alloc);
+    for n in 0..excluding {
+        exclusions.push(Exclusion {
+            avoid: false,
+            what: excluded(n),
+        })?;
+    }
+    Ok(Query {
         own: As(1),
         metric: Metric::Te,
         cap,
@@ -165,32 +191,35 @@ fn query(alloc: Global, cap: Cost) -> Query {
         exclude_any: 0,
         include_any: 0,
         include_all: 0,
-        exclusions: List::new(alloc),
-    }
+        exclusions,
+    })
 }
 
 // A search from the node in the middle.
-fn find(alloc: Global, topology: &Topology, cap: Cost, zero: Cost) -> Result<Labels, NoMemory> {
+fn find(alloc: Global, topology: &Topology, query: &Query, zero: Cost) -> Result<Labels, NoMemory> {
     let node = Addr::V4(513);
     let seed = Seed {
         node,
         cost: zero,
         exit: node,
     };
-    search(alloc, &mut Counted::new(topology), &query(alloc, cap), &[seed])
+    search(alloc, &mut Counted::new(topology), query, &[seed])
 }
 
-fn measure(rt: &HostRuntime, name: &str, shape: Shape) -> io::Result<()> {
+fn measure(rt: &HostRuntime, name: &str, shape: Shape, excluding: u32) -> io::Result<()> {
     let (Some(cap), Some(zero)) = (Cost::of(16_777_215), Cost::of(0)) else {
         return println!(rt; "no cost");
     };
     let Ok(Some(topology)) = topology(rt.alloc(), shape) else {
         return println!(rt; "no topology");
     };
+    let Ok(query) = query(rt.alloc(), cap, excluding) else {
+        return println!(rt; "no query");
+    };
     let mut best = u128::MAX;
     for _round in 0..1_000 {
         let start = Instant::now(rt)?;
-        if let Ok(_labels) = find(rt.alloc(), &topology, cap, zero) {
+        if let Ok(_labels) = find(rt.alloc(), &topology, &query, zero) {
             best = best.min(start.elapsed(rt)?.as_nanos());
         }
     }
@@ -199,10 +228,11 @@ fn measure(rt: &HostRuntime, name: &str, shape: Shape) -> io::Result<()> {
 }
 
 fn main(rt: HostRuntime) -> io::Result<()> {
-    measure(&rt, "ties", Shape::Ties)?;
-    measure(&rt, "metrics", Shape::Metrics)?;
-    measure(&rt, "grid", Shape::Grid)?;
-    measure(&rt, "line", Shape::Line)
+    measure(&rt, "ties", Shape::Ties, 0)?;
+    measure(&rt, "metrics", Shape::Metrics, 0)?;
+    measure(&rt, "grid", Shape::Grid, 0)?;
+    measure(&rt, "line", Shape::Line, 0)?;
+    measure(&rt, "excluding", Shape::Metrics, 256)
 }
 RT
 
@@ -213,5 +243,6 @@ RT
 "$beside" >"$copy/beside"
 grep ' us' "$copy/figures" | while read -r name time unit; do
     other=$(awk -v name="$name" '$1 == name { print $2 }' "$copy/beside")
+    [ -n "$other" ] || other=$(awk '$1 == "metrics" { print $2 }' "$copy/beside")
     awk -v name="$name" -v time="$time" -v other="$other" 'BEGIN { printf "%s %s us, beside %s us: %.2f times\n", name, time, other, time / other }'
 done
