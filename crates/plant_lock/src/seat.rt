@@ -8,7 +8,6 @@ use crate::turned::Turned;
 use crate::view::{Key, Slot, View};
 use atomic_table::{Seat, Table};
 use std::alloc::Global;
-use std::sync::Mutex;
 
 /// A lock round a value that takes turns. Threads share it by reference.
 ///
@@ -23,8 +22,6 @@ pub struct Turnstile<T: Turned> {
         TicketRule<T>,
         Global,
     >,
-    // who finds the lock in use for long stands in this line, and draws a ticket at its head
-    pub(crate) line: Mutex<()>,
     ghost sized: { (table.shared.table_id.words ≡ 2) × (table.shared.table_id.slots ≡ 1) },
 }
 

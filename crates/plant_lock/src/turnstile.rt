@@ -1,5 +1,5 @@
 //! The calls of a turnstile and its seats.
-ghost use Rattle.std.specs.Prelude.{◌≡◌, ◌+◌, ◌-◌, ◌^◌, ◌<◌, ◌≤◌, ◌↔◌, [], ◌∷◌, ◌++◌, IsTrue, IfOk, IfErr, IfSome, IfNone, OnOk, OnErr, MatchResult};
+ghost use Rattle.std.specs.Prelude.{◌≡◌, ◌+◌, ◌-◌, ◌^◌, ◌<◌, ◌≤◌, ◌↔◌, [], ◌∷◌, ◌++◌, IsTrue, IfOk, IfErr, OnOk, OnErr, MatchResult};
 ghost use Rattle.plant_lock.specs.declared.view.SeatStage.TheVariants.{Idle, Waits, Serves};
 ghost use Rattle.plant_lock.specs.declared.turnstile.SplitError.TheVariants.{NoSeat};
 ghost use Rattle.plant_lock.specs.History.{StartsWith};
@@ -11,12 +11,12 @@ use crate::seat::{TurnSeat, Turnstile};
 use crate::steps::{Advance, Cut, Draw, Learn, Look, Merge, Take};
 use crate::turned::Turned;
 use crate::view::{Key, Slot, View};
-use crate::waiting::{PATIENCE, Pace, SPUN, is_next, spin_back, stand_back, stand_by};
+use crate::waiting::{PATIENCE, stand_back, stand_by};
 use atomic_table::{Seat, Table};
 use dom_base::NoMemory;
 use std::alloc::Global;
 use std::snapshot::Snapshot;
-use std::sync::{Mutex, Wait};
+use std::sync::Wait;
 use std::time::Clock;
 
 /// The first number that is no ticket.
@@ -62,10 +62,7 @@ impl<T: Turned> Turnstile<T> {
         slots.push(Slot::Value(value))?;
         match Table::new(alloc, &[0, 0], slots, &key) {
             Ok((table, seat)) => Ok((
-                Turnstile {
-                    table,
-                    line: Mutex::new(()),
-                },
+                Turnstile { table },
                 TurnSeat {
                     seat,
                     shares: seats,
@@ -147,7 +144,7 @@ impl<T: Turned> Turnstile<T> {
         requires all { shares_of seat ≡ seats_of self }
         ensures { IsLeft seat result }
     {
-        let Turnstile { table, line: _ } = self;
+        let Turnstile { table } = self;
         let TurnSeat { seat, shares: _ } = seat;
         let mut closed = table.close_with(seat);
         let slot = closed.take(0);
@@ -158,7 +155,7 @@ impl<T: Turned> Turnstile<T> {
         }
     }
 
-    // The ticket word, met where the head of the line is to draw the next ticket, or after so many waits.
+    // The ticket word, met where no ticket was out, or after so many waits.
     fn approach<R: Clock>(&self, rt: &R, seat: &mut SeatOf<T>) -> u64
         requires here { seat.old.table_id ≡ self.now.table.shared.table_id }
         requires live { 0 < seat.old.me.0.shares }
@@ -166,11 +163,8 @@ impl<T: Turned> Turnstile<T> {
         ensures met { seat.new.me ≡ (record seat.old.me.0 { met = result }, seat.old.me.1) }
     {
         let mut met = self.table.shared.load::<Look>(seat, 0);
-        let mut pace = Pace::new(rt, self.table.shared.peek(1));
         for wait in 0..PATIENCE {
-            let served = self.table.shared.peek(1);
-            let is_slow = pace.is_slow(rt, served);
-            if is_next(met.saturating_sub(served), is_slow, wait) {
+            if met == self.table.shared.peek(1) {
                 return met;
             }
             stand_back(rt, wait);
@@ -179,32 +173,8 @@ impl<T: Turned> Turnstile<T> {
         met
     }
 
-    // Draws a ticket where it meets a word at which none is out.
-    fn draw_free(&self, seat: &mut SeatOf<T>) -> Option<u64>
-        requires here { seat.old.table_id ≡ self.now.table.shared.table_id }
-        requires live { (0 < seat.old.me.0.shares) × (seat.old.me.0.stage ≡ Idle) }
-        ensures here { (seat.new.table_id ≡ seat.old.table_id) × (seat.new.id ≡ seat.old.id) }
-        ensures drawn { IfSome result (λ t. (t < 2 ^ 63) × (seat.new.me ≡ (record seat.old.me.0 { met = t; stage = Waits t }, seat.old.me.1))) }
-        ensures none { IfNone result (seat.new.me ≡ (record seat.old.me.0 { met = seat.new.me.0.met }, seat.old.me.1)) }
-    {
-        for wait in 0..SPUN {
-            let met = self.table.shared.load::<Look>(seat, 0);
-            if met == self.table.shared.peek(1) && !is_spent(met) {
-                let found = self
-                    .table
-                    .shared
-                    .compare_exchange::<Draw>(seat, 0, met, met + 1);
-                if found == met {
-                    return Some(found);
-                }
-            }
-            spin_back(wait);
-        }
-        None
-    }
-
-    // Draws a ticket at the head of the line, or else answers the word that it met.
-    fn draw_next<R: Wait + Clock>(&self, rt: &R, seat: &mut SeatOf<T>) -> Result<u64, u64>
+    // Draws a ticket, or else answers the word that it met.
+    fn draw<R: Wait + Clock>(&self, rt: &R, seat: &mut SeatOf<T>) -> Result<u64, u64>
         requires here { seat.old.table_id ≡ self.now.table.shared.table_id }
         requires live { (0 < seat.old.me.0.shares) × (seat.old.me.0.stage ≡ Idle) }
         ensures here { (seat.new.table_id ≡ seat.old.table_id) × (seat.new.id ≡ seat.old.id) }
@@ -226,22 +196,6 @@ impl<T: Turned> Turnstile<T> {
             }
         }
         unreachable!()
-    }
-
-    // Draws a ticket, or else answers the word that it met. Where it finds the lock in use for long it stands in line.
-    fn draw<R: Wait + Clock>(&self, rt: &R, seat: &mut SeatOf<T>) -> Result<u64, u64>
-        requires here { seat.old.table_id ≡ self.now.table.shared.table_id }
-        requires live { (0 < seat.old.me.0.shares) × (seat.old.me.0.stage ≡ Idle) }
-        ensures here { (seat.new.table_id ≡ seat.old.table_id) × (seat.new.id ≡ seat.old.id) }
-        ensures drawn { MatchResult result
-            (λ t. (t < 2 ^ 63) × (seat.new.me ≡ (record seat.old.me.0 { met = t; stage = Waits t }, seat.old.me.1)))
-            (λ t. (2 ^ 63 ≤ t) × (seat.new.me ≡ (record seat.old.me.0 { met = t }, seat.old.me.1))) }
-    {
-        if let Some(ticket) = self.draw_free(seat) {
-            return Ok(ticket);
-        }
-        let _head = self.line.lock(rt);
-        self.draw_next(rt, seat)
     }
 
     // Waits until the ticket is served, and takes the slot.

@@ -1,7 +1,7 @@
 use Rattle.std.proofs.Common.{rules, arith, refl, sym, subst, ◌<◌, ◌≡◌, ◌^◌}
 use Rattle.plant_lock.specs.declared.view.SeatStage.TheVariants.{Idle}
 use Rattle.plant_lock.proofs.Keeps.{draws}
-use Rattle.plant_lock.proofs.seat.Turnstile.draw_next.Goals as goal
+use Rattle.plant_lock.proofs.seat.Turnstile.draw.Goals as goal
 
 pub compare_exchange-found-requires : goal.compare_exchange-found-requires
 compare_exchange-found-requires g c =
