@@ -1,6 +1,7 @@
 //! The board of a server: what wakes its threads, the ways along which messages wait, and which job each worker is at. No clause speaks
 //! of it.
 use crate::claims::Claims;
+use crate::line::Line;
 use crate::rounds::Rounds;
 use dom_base::{As, NoMemory};
 use dom_edge::{Bell, Chime};
@@ -25,6 +26,7 @@ pub struct Bells {
     rounds: Rounds,
     workers: Vec<Chime>,
     claims: Claims,
+    line: Line,
 }
 
 fn places(alloc: Global, count: usize) -> Result<Vec<OnceLock<Bell>>, NoMemory> {
@@ -53,6 +55,7 @@ impl Bells {
             rounds: Rounds::new(),
             workers,
             claims: Claims::new(),
+            line: Line::new(alloc)?,
         })
     }
 
@@ -76,6 +79,11 @@ impl Bells {
     /// Which job each worker is at.
     pub(crate) fn claims(&self) -> &Claims {
         &self.claims
+    }
+
+    /// Where sessions stand that have much to do.
+    pub(crate) fn line(&self) -> &Line {
+        &self.line
     }
 
     /// Rings those whom a turn stirred, but for the session of the desk that made it: that one asks before it waits.

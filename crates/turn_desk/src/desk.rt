@@ -4,6 +4,7 @@ ghost use Rattle.plant_lock.specs.Seats.{IsAt, view_of};
 ghost use Rattle.turn_desk.specs.Histories.{Begins};
 
 use crate::bells::Bells;
+use crate::line::Place;
 use plant_lock::{TurnSeat, Turnstile};
 use plant_network::Plant;
 use std::alloc::Global;
@@ -22,6 +23,8 @@ pub struct TurnDesk<R: Wait + Clock> {
     pub(crate) bells: Option<Arc<Bells, Global>>,
     // the outside peer whose session this desk opened last
     pub(crate) own: Option<u32>,
+    // its place in the line of those that have much to do
+    pub(crate) place: Place,
     ghost here: { IsAt (arc_value lock) seat },
     ghost begun: { Begins (view_of seat).start },
 }
@@ -34,8 +37,12 @@ impl<R: Wait + Clock + Drop> Drop for TurnDesk<R> {
             lock: _,
             seat: _,
             spent_at: _,
-            bells: _,
+            bells,
             own: _,
+            mut place,
         } = self;
+        if let Some(bells) = bells {
+            place.leave(bells.line());
+        }
     }
 }

@@ -13,6 +13,7 @@ mod claims;
 mod desk;
 mod finding;
 mod guide;
+mod line;
 mod notes;
 mod rounds;
 mod standing;

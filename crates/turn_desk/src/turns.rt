@@ -9,13 +9,18 @@ ghost use Rattle.plant_network.specs.Topologies.{whole};
 
 use crate::bells::Bells;
 use crate::desk::TurnDesk;
+use crate::line::Place;
 use dom_base::{As, NoMemory};
 use dom_edge::Bell;
 use plant_lock::{Spent, SplitError, TurnSeat, Turnstile};
+use plant_network::model::Event;
 use plant_network::{Act, Acted, Plant, Rest, Stirred};
 use std::alloc::Global;
 use std::sync::{Arc, Wait};
 use std::time::Clock;
+
+// How many octets a large piece has at least.
+const LARGE: usize = 4_096;
 
 // The same board for another desk.
 fn shared(bells: &Option<Arc<Bells, Global>>) -> Result<Option<Arc<Bells, Global>>, NoMemory> {
@@ -25,6 +30,46 @@ fn shared(bells: &Option<Arc<Bells, Global>>) -> Result<Option<Arc<Bells, Global
     match Arc::try_clone(bells) {
         Ok(bells) => Ok(Some(bells)),
         Err(_) => Err(NoMemory),
+    }
+}
+
+// Whether the act has a large piece to feed.
+fn is_large(act: &Act) -> bool {
+    match act {
+        Act::Do(Event::Feed(_peer, piece)) => piece.len() >= LARGE,
+        _ => false,
+    }
+}
+
+// Whether there is more to do behind a turn: the piece that it fed is large, or the take that it made left messages.
+fn leaves_more(acted: &Acted, is_large: bool, rest: Rest) -> bool {
+    matches!(acted, Acted::Did(Ok(_))) && (is_large || matches!(rest, Rest::Messages))
+}
+
+// Before a turn: a desk stands in line where the turn is a large one, or many before it left more to do.
+fn stand_in_line<R: Wait + Clock>(
+    rt: &R,
+    bells: &Option<Arc<Bells, Global>>,
+    place: &mut Place,
+    is_large: bool,
+) {
+    if let Some(bells) = bells {
+        if is_large {
+            place.load();
+        }
+        place.before(rt, bells.line());
+    }
+}
+
+// Behind a turn.
+fn step_on<R: Wait + Clock>(
+    rt: &R,
+    bells: &Option<Arc<Bells, Global>>,
+    place: &mut Place,
+    has_more: bool,
+) {
+    if let Some(bells) = bells {
+        place.behind(rt, bells.line(), has_more);
     }
 }
 
@@ -43,6 +88,7 @@ impl<R: Wait + Clock> TurnDesk<R> {
             spent_at: None,
             bells: None,
             own: None,
+            place: Place::new(),
         }
     }
 
@@ -90,12 +136,17 @@ impl<R: Wait + Clock> TurnDesk<R> {
         if let Some(number) = self.spent_at {
             return Err(number);
         }
+        let is_large = is_large(&act);
+        stand_in_line(&self.rt, &self.bells, &mut self.place, is_large);
         match self.lock.turn(&self.rt, &mut self.seat, act) {
             Ok((_place, turn)) => {
                 self.ring(&turn.stirred, turn.rest);
+                let has_more = leaves_more(&turn.acted, is_large, turn.rest);
+                step_on(&self.rt, &self.bells, &mut self.place, has_more);
                 Ok((turn.acted, turn.rest))
             }
             Err(Spent(number)) => {
+                step_on(&self.rt, &self.bells, &mut self.place, false);
                 self.spent_at = Some(number);
                 Err(number)
             }
