@@ -30,7 +30,8 @@ const RESTS: u32 = 1_000;
 pub(crate) struct Line {
     drawn: AtomicU64,
     served: AtomicU64,
-    // not 0: a turn was made outside the line
+    // how many desks outside the line are at a turn, and not 0: one has made a turn
+    waiting: AtomicU64,
     others: AtomicU64,
     chimes: Vec<Chime>,
 }
@@ -45,6 +46,7 @@ impl Line {
         Ok(Line {
             drawn: AtomicU64::new(0),
             served: AtomicU64::new(0),
+            waiting: AtomicU64::new(0),
             others: AtomicU64::new(0),
             chimes,
         })
@@ -76,11 +78,24 @@ impl Line {
         self.drawn.load(SeqCst) != self.served.load(SeqCst)
     }
 
-    // A turn was made outside the line.
-    fn note_other(&self) {
-        if self.is_in_use() && self.others.load(SeqCst) == 0 {
-            self.others.store(1, SeqCst);
+    // A desk outside the line begins a turn. Answers whether it is noted.
+    fn note(&self) -> bool {
+        let is_noted = self.is_in_use();
+        if is_noted {
+            self.waiting.fetch_add(1, SeqCst);
         }
+        is_noted
+    }
+
+    // A desk that is noted has made its turn.
+    fn strike_out(&self) {
+        self.waiting.fetch_sub(1, SeqCst);
+        self.others.store(1, SeqCst);
+    }
+
+    // Desks outside the line are at a turn, or made one since this was last asked.
+    fn has_others(&self) -> bool {
+        self.others.swap(0, SeqCst) != 0 || self.waiting.load(SeqCst) != 0
     }
 
     // The first in line rests for as long as others make turns, but no longer than it has made turns itself, from that moment on.
@@ -90,7 +105,7 @@ impl Line {
                 Ok(elapsed) => elapsed.saturating_sub(took) >= took,
                 Err(_) => true,
             };
-            if is_over || self.others.swap(0, SeqCst) == 0 {
+            if is_over || !self.has_others() {
                 return;
             }
             sleep(clock, Duration::from_micros(REST));
@@ -104,6 +119,7 @@ pub(crate) struct Place {
     // how many turns in a row left more to do
     turns: u32,
     since: Option<Instant>,
+    is_noted: bool,
 }
 
 impl Place {
@@ -112,6 +128,7 @@ impl Place {
         Place {
             turns: 0,
             since: None,
+            is_noted: false,
         }
     }
 
@@ -122,12 +139,17 @@ impl Place {
 
     /// Before a turn: a session that has much to do stands in line until it is the first.
     pub(crate) fn before<R: Wait + Clock>(&mut self, rt: &R, line: &Line) {
-        if self.turns >= LADEN && self.since.is_none() {
-            line.enter(rt);
-            self.since = Instant::now(rt).ok();
-            if self.since.is_none() {
-                line.leave();
-            }
+        if self.since.is_some() {
+            return;
+        }
+        if self.turns < LADEN {
+            self.is_noted = line.note();
+            return;
+        }
+        line.enter(rt);
+        self.since = Instant::now(rt).ok();
+        if self.since.is_none() {
+            line.leave();
         }
     }
 
@@ -139,7 +161,10 @@ impl Place {
             0
         };
         let Some(since) = self.since else {
-            line.note_other();
+            if self.is_noted {
+                self.is_noted = false;
+                line.strike_out();
+            }
             return;
         };
         let took = since.elapsed(rt).unwrap_or(Duration::from_micros(SHARE));
