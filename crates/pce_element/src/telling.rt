@@ -13,9 +13,7 @@ use crate::tellers::Teller;
 use crate::world::World;
 use dom_base::{List, NoMemory, Peer};
 use pce_common::model::{Output, Outputs};
-use pce_common::{
-    Ended, Told, busy, error_answer, notices_name_many, reports_name_many, told_by,
-};
+use pce_common::{Ended, Told, busy, error_answer, notices_name_many, reports_name_many, told_by};
 use pcep_messages::{ErrorReport, Message, Notice};
 use std::alloc::Global;
 
@@ -59,9 +57,7 @@ impl<W: World> Element<W> {
         requires { Knows self.now.losing.element.pending.rows teller.now }
         ensures { OnOk result (reached self.now.losing.element ending.new ≡ after (reached self.now.losing.element ending.old) (take_busy teller.now.peer rp)) }
     {
-        let waiting = self
-            .requests()
-            .still_waiting(teller, &ending.numbers, rp.1);
+        let waiting = self.requests().still_waiting(teller, &ending.numbers, rp.1);
         let Some(row) = waiting else {
             return Ok(());
         };
@@ -147,9 +143,7 @@ impl<W: World> Element<W> {
         requires { Knows self.now.losing.element.pending.rows teller.now }
         ensures { OnOk result (reached self.now.losing.element ending.new ≡ after (reached self.now.losing.element ending.old) (failing teller.now.peer error rp)) }
     {
-        let waiting = self
-            .requests()
-            .still_waiting(teller, &ending.numbers, rp.1);
+        let waiting = self.requests().still_waiting(teller, &ending.numbers, rp.1);
         let Some(row) = waiting else {
             return Ok(());
         };

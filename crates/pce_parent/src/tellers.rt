@@ -36,11 +36,7 @@ fn add_waits(waiters: &mut Waiters, peer: Peer, row: Row<'_>) -> Result<(), NoMe
 }
 
 // Who waits for the answers of a peer, by the ids that were sent to it.
-fn waiters_of(
-    alloc: Global,
-    requests: &Requests<Asking>,
-    peer: Peer,
-) -> Result<Waiters, NoMemory>
+fn waiters_of(alloc: Global, requests: &Requests<Asking>, peer: Peer) -> Result<Waiters, NoMemory>
     ensures { IfOk result (AreSaidOf (numbers_waiting (waits_under peer) requests.now.kept.rows)) }
 {
     let mut waiters = Waiters::new(alloc);

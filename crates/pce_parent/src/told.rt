@@ -11,9 +11,7 @@ use crate::parent::Parent;
 use crate::sought::{Sought, find};
 use crate::tellers::{Teller, find_waiting, teller_of};
 use dom_base::{NoMemory, Peer};
-use pce_common::{
-    Told, busy, error_answer, notices_name_many, reports_name_many, told_by,
-};
+use pce_common::{Told, busy, error_answer, notices_name_many, reports_name_many, told_by};
 use pcep_messages::{ErrorReport, Notice};
 
 impl Parent {
