@@ -81,12 +81,12 @@ module _ (h : List ℕ) (left rest : List NumberedLine) (l : NumberedLine) (k : 
   head_step = ap (λ (ls : List NumberedLine). slice_get (headed h ls) k) next
 
   pub row_found : heads h l.text ≡ true → k ≡ 0 → slice_get (headed h left) k ≡ Some l
-  row_found yes zero_left =
-      head_step ∙ ap (λ (b : Bool). slice_get (cond b (l ∷ headed h rest) (headed h rest)) k) yes ∙ ap (slice_get (l ∷ headed h rest)) zero_left
+  row_found is zero_left =
+      head_step ∙ ap (λ (b : Bool). slice_get (cond b (l ∷ headed h rest) (headed h rest)) k) is ∙ ap (slice_get (l ∷ headed h rest)) zero_left
 
   pub row_counted : heads h l.text ≡ true → (j : ℕ) → k ≡ suc j → slice_get (headed h left) k ≡ slice_get (headed h rest) j
-  row_counted yes j more =
-      head_step ∙ ap (λ (b : Bool). slice_get (cond b (l ∷ headed h rest) (headed h rest)) k) yes ∙ ap (slice_get (l ∷ headed h rest)) more
+  row_counted is j more =
+      head_step ∙ ap (λ (b : Bool). slice_get (cond b (l ∷ headed h rest) (headed h rest)) k) is ∙ ap (slice_get (l ∷ headed h rest)) more
 
   pub row_passed : heads h l.text ≡ false → slice_get (headed h left) k ≡ slice_get (headed h rest) k
   row_passed no_row = head_step ∙ ap (λ (b : Bool). slice_get (cond b (l ∷ headed h rest) (headed h rest)) k) no_row
@@ -94,7 +94,7 @@ module _ (h : List ℕ) (left rest : List NumberedLine) (l : NumberedLine) (k : 
 -- the row is that of all lines, of which these are left
 pub row_of_all : (h : List ℕ) (whole left rest : List NumberedLine) (i k : ℕ) (l : NumberedLine) → left ≡ l ∷ rest → heads h l.text ≡ true → k ≡ 0
     → slice_get (headed h left) k ≡ slice_get (headed h whole) i → slice_get (headed h whole) i ≡ Some l
-row_of_all h whole left rest i k l next yes zero_left same = sym same ∙ row_found h left rest l k next yes zero_left
+row_of_all h whole left rest i k l next is zero_left same = sym same ∙ row_found h left rest l k next is zero_left
 
 pub no_row_of_all : (h : List ℕ) (whole left : List NumberedLine) (i k : ℕ) → left ≡ [] → slice_get (headed h left) k ≡ slice_get (headed h whole) i → slice_get (headed h whole) i ≡ None
 no_row_of_all h whole left i k is same = sym same ∙ none_headed h left k is
@@ -111,13 +111,13 @@ module _ (key : List ℕ) (left rest : List NumberedLine) (l : NumberedLine) (ne
       ∙ elim (not (opens l.text)) as (λ (b : Bool). find N (cond b (l ∷ T) []) ≡ cond b (cond (names_key key l.text) (Some l) (find N T)) None) [ true ↦ refl | false ↦ refl ]
 
   pub key_ends : opens l.text ≡ true → key_in key left ≡ None
-  key_ends yes = key_step ∙ ap (λ (b : Bool). cond (not b) (cond (names_key key l.text) (Some l) (key_in key rest)) None) yes
+  key_ends is = key_step ∙ ap (λ (b : Bool). cond (not b) (cond (names_key key l.text) (Some l) (key_in key rest)) None) is
 
   key_within : opens l.text ≡ false → key_in key left ≡ cond (names_key key l.text) (Some l) (key_in key rest)
   key_within within = key_step ∙ ap (λ (b : Bool). cond (not b) (cond (names_key key l.text) (Some l) (key_in key rest)) None) within
 
   pub key_found : opens l.text ≡ false → names_key key l.text ≡ true → key_in key left ≡ Some l
-  key_found within yes = key_within within ∙ ap (λ (b : Bool). cond b (Some l) (key_in key rest)) yes
+  key_found within is = key_within within ∙ ap (λ (b : Bool). cond b (Some l) (key_in key rest)) is
 
   pub key_passed : opens l.text ≡ false → names_key key l.text ≡ false → key_in key left ≡ key_in key rest
   key_passed within other = key_within within ∙ ap (λ (b : Bool). cond b (Some l) (key_in key rest)) other

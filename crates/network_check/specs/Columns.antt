@@ -1,5 +1,6 @@
 -- What is told of the keys of rows: which lack, which are not known, and which have a value that they may not have.
 use Rattle.std.specs.Prelude.{ℕ, ◌+◌, Bool, true, false, not, List, [], ◌∷◌, ◌++◌, codes, decimal, find, Option, Some, None, if◌then◌else◌}
+use Rattle.std.specs.List.{list_any}
 use Rattle.std.specs.Str.{bytes_eq}
 use Rattle.dom_base.specs.Steps.{◌>>=◌}
 use Rattle.toml.specs.Data.{Data, Items, no_items, item, Members, array, as_str, as_table, get, get_member}
@@ -54,8 +55,7 @@ columns_text s i label ms (c ∷ cs) = field_text s i label ms c ++ columns_text
 
 -- the first key that is not known
 abbrev pub is_column : List Column → List ℕ → Bool
-is_column [] key = false
-is_column (c ∷ cs) key = if bytes_eq c.key key then true else is_column cs key
+is_column cs key = list_any (λ (c : Column). bytes_eq key c.key) cs
 
 abbrev pub strange_text : Sheet → ℕ → List ℕ → Option (List ℕ) → List ℕ
 strange_text s i label None = []

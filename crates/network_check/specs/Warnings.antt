@@ -31,14 +31,19 @@ is_way at p = same_as p.at at && leads_out p.class
 abbrev pub is_joined : NetworkParts → ElementRow → Bool
 is_joined n e = e.parent || list_any (ends_at e.own) n.links || list_any (is_way e.own) n.peers
 
-abbrev pub element_words : ElementRow → List ℕ → List ℕ
-element_words e what = joined (codes "warning element " ∷ decimal e.own.0 ∷ what ∷ [])
+-- none does, and the element is not the only one
+abbrev pub is_alone : NetworkParts → ElementRow → Bool
+is_alone n e = nat_lt 1 (length n.elements) && not (is_joined n e)
 
--- of the element at a place: it has no topology; it has no link, and is not the only one
+abbrev pub topology_warning : List ℕ → ℕ → ElementRow → List ℕ
+topology_warning file line e = told_if (is_none e.topology) file line (joined (codes "warning element " ∷ decimal e.own.0 ∷ codes " has no topology" ∷ []))
+
+abbrev pub link_warning : List ℕ → ℕ → NetworkParts → ElementRow → List ℕ
+link_warning file line n e = told_if (is_alone n e) file line (joined (codes "warning element " ∷ decimal e.own.0 ∷ codes " has no link" ∷ []))
+
+-- of the element at a place: it has no topology; it has no link
 abbrev pub element_warnings : List ℕ → List ℕ → NetworkParts → ℕ → ElementRow → List ℕ
-element_warnings file text n i e =
-    told_if (is_none e.topology) file (line_of text (codes "[[element]]") i) (element_words e (codes " has no topology"))
-    ++ told_if (nat_lt 1 (length n.elements) && not (is_joined n e)) file (line_of text (codes "[[element]]") i) (element_words e (codes " has no link"))
+element_warnings file text n i e = topology_warning file (line_of text (codes "[[element]]") i) e ++ link_warning file (line_of text (codes "[[element]]") i) n e
 
 abbrev pub elements_warnings : List ℕ → List ℕ → NetworkParts → ℕ → List ElementRow → List ℕ
 elements_warnings file text n i [] = []
@@ -62,10 +67,11 @@ met_text file line p (Some name) = told file line (peer_words p (codes " is that
 abbrev pub met_warning : List ℕ → ℕ → List PeerRow → PeerRow → List ℕ
 met_warning file line before p = met_text file line p (met before p)
 
+abbrev pub watch_warning : List ℕ → ℕ → Option ℕ → PeerRow → List ℕ
+watch_warning file line watch p = told_if (meets_watch watch p) file line (peer_words p (codes " is that of watchers" ∷ []))
+
 abbrev pub peer_warnings : List ℕ → List ℕ → Option ℕ → ℕ → List PeerRow → PeerRow → List ℕ
-peer_warnings file text watch i before p =
-    met_warning file (line_of text (codes "[[peer]]") i) before p
-    ++ told_if (meets_watch watch p) file (line_of text (codes "[[peer]]") i) (peer_words p (codes " is that of watchers" ∷ []))
+peer_warnings file text watch i before p = met_warning file (line_of text (codes "[[peer]]") i) before p ++ watch_warning file (line_of text (codes "[[peer]]") i) watch p
 
 -- each behind those before it
 abbrev pub peers_warnings : List ℕ → List ℕ → Option ℕ → List PeerRow → List PeerRow → List ℕ

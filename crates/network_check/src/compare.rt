@@ -4,7 +4,7 @@ ghost use Rattle.std.specs.List.{list_any};
 ghost use Rattle.std.specs.Str.Lines.{lines as lines_of};
 ghost use Rattle.line_text.specs.Lines.{told_lines};
 ghost use Rattle.network_check.specs.declared.looks.Seen.{Seen};
-ghost use Rattle.network_check.specs.Compare.{IsShort, chart_at as first_chart, entry_warning, is_entry, is_out, is_refused, lacks_entry as no_entry, lacks_out as no_out, line_warnings, lines_warnings, out_warning, row_warning, topologies_text, topology_text};
+ghost use Rattle.network_check.specs.Compare.{IsShort, chart_at as first_chart, entry_warning, is_entry as is_entry_of, is_out as is_out_of, is_refused, lacks_entry as no_entry, lacks_out as no_out, line_warnings, lines_warnings, out_warning, row_warning, topologies_text, topology_text};
 
 use crate::faults::fault_words;
 use crate::looks::{Chart, Look, Seen};
@@ -31,26 +31,36 @@ fn chart_at(seen: &[Seen], at: As) -> Option<&Topology>
     None
 }
 
+fn is_entry(entry: Entry, node: Addr, from: As) -> bool
+    ensures { result ≡ is_entry_of node from entry }
+{
+    entry.node == node && entry.from_as.0 == from.0
+}
+
 // Whether a topology has such an entry.
 fn has_entry(topology: &Topology, node: Addr, from: As) -> bool
-    ensures { result ≡ list_any (is_entry node from) topology.now.entries }
+    ensures { result ≡ list_any (is_entry_of node from) topology.now.entries }
 {
     for i in 0..topology.entry_count() {
-        let entry = topology.entry_at(i);
-        if entry.node == node && entry.from_as.0 == from.0 {
+        if is_entry(topology.entry_at(i), node, from) {
             return true;
         }
     }
     false
 }
 
+fn is_out(out: &OutLink, node: Addr, to: As) -> bool
+    ensures { result ≡ is_out_of node to out.now }
+{
+    out.link.to == node && out.to_as.0 == to.0
+}
+
 // Whether a topology has an out link to such an entry.
 fn has_out(topology: &Topology, node: Addr, to: As) -> bool
-    ensures { result ≡ list_any (is_out node to) topology.now.outs }
+    ensures { result ≡ list_any (is_out_of node to) topology.now.outs }
 {
     for i in 0..topology.out_count() {
-        let out = topology.out_at(i);
-        if out.link.to == node && out.to_as.0 == to.0 {
+        if is_out(topology.out_at(i), node, to) {
             return true;
         }
     }

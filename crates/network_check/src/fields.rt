@@ -100,12 +100,3 @@ pub(crate) fn kind_of(field: &Field) -> Kind
         Field::May(_, kind) => *kind,
     }
 }
-
-pub(crate) fn is_needed(field: &Field) -> bool
-    ensures { result ≡ (column field.now).needed }
-{
-    match field {
-        Field::Must(_, _) => true,
-        Field::May(_, _) => false,
-    }
-}

@@ -1,6 +1,8 @@
 //! What is told of a network's files.
-ghost use Rattle.std.specs.Prelude.{◌≡◌, ◌≤◌, ◌++◌, IfOk, OnOk};
-ghost use Rattle.network_check.specs.Findings.{AreFound, IsReport, IsShortText, is_faulty as are_faulty, rows_of, settings_text};
+ghost use Rattle.std.specs.Prelude.{◌≡◌, ◌≤◌, ◌++◌, All, IfOk, OnOk};
+ghost use Rattle.network_check.specs.declared.looks.Seen.{Seen};
+ghost use Rattle.network_check.specs.Compare.{IsShort};
+ghost use Rattle.network_check.specs.Findings.{AreFound, IsReport, IsShortText, findings_text, has_fault as has_fault_at, is_faulty as are_faulty, rows_of, settings_text};
 ghost use Rattle.network_check.specs.Looks.{AreSeen};
 
 use crate::compare::{has_fault, tell_of_topologies};
@@ -101,6 +103,26 @@ fn are_at_fault(settings: &Settings) -> bool
     }
 }
 
+fn tell_findings(
+    alloc: Global,
+    net: &[u8],
+    findings: &Findings,
+    into: &mut Vec<u8>,
+) -> Result<(), NoMemory>
+    requires settings { IsShortText findings.now.settings }
+    requires seen { All (λ (s : Seen). IsShort s.look) findings.now.seen }
+    ensures { OnOk result (into.new.items ≡ into.old.items ++ findings_text net.now findings.now) }
+{
+    tell_settings(alloc, net, &findings.settings, into)?;
+    tell_of_topologies(alloc, findings.seen.as_slice(), into)
+}
+
+fn is_at_fault(findings: &Findings) -> bool
+    ensures { result ≡ has_fault_at findings.now }
+{
+    are_at_fault(&findings.settings) || has_fault(findings.seen.as_slice())
+}
+
 /// Reads the settings in a file and the topologies that they name, and tells of each file that is at fault, and of what no rule
 /// sees. A file that is not to be had is at fault; the store keeps its files.
 #[tactic(auto, using(crate::proofs::Shortness::settings_short, crate::proofs::Shortness::looks_short))]
@@ -111,11 +133,9 @@ pub fn check<S: Store>(alloc: Global, store: &mut S, net: &str) -> Result<Report
 {
     let findings = look(alloc, store, net)?;
     let mut text = Vec::new(alloc);
-    tell_settings(alloc, net.as_bytes(), &findings.settings, &mut text)?;
-    tell_of_topologies(alloc, findings.seen.as_slice(), &mut text)?;
-    let is_faulty = are_at_fault(&findings.settings) || has_fault(findings.seen.as_slice());
+    tell_findings(alloc, net.as_bytes(), &findings, &mut text)?;
     Ok(Report {
         text: Bytes::from_vec(text),
-        is_faulty,
+        is_faulty: is_at_fault(&findings),
     })
 }

@@ -1,9 +1,9 @@
 //! What the values of settings may be.
-ghost use Rattle.std.specs.Prelude.{◌≡◌, ◌≤◌, ◌||◌, is_some, length};
+ghost use Rattle.std.specs.Prelude.{◌≡◌, ◌≤◌, ◌&&◌, ◌||◌, is_some, length, nat_le};
 ghost use Rattle.std.specs.List.{list_all};
 ghost use Rattle.toml.specs.View.{items_view, view};
 ghost use Rattle.plant_text.specs.Rules.{is_digit as is_digit_code, is_letter as is_letter_code, is_name as is_peer_name};
-ghost use Rattle.plant_text.specs.SettingsText.{numbers_in};
+ghost use Rattle.plant_text.specs.SettingsText.{item_count, numbers_in};
 ghost use Rattle.network_check.specs.Kinds.{allowed, are_numbers as are_numbers_data, is_address, is_class, is_colour, is_fourth, is_kind, is_name, is_number, spells_fourth};
 
 use dom_base::{Addr, read_addr, read_colour};
@@ -141,11 +141,24 @@ fn are_whole(items: &[Value]) -> bool
     true
 }
 
+fn are_few(items: &[Value]) -> bool
+    ensures { result ≡ nat_le (item_count (items_view items.now)) SRLGS_MAX }
+{
+    items.len() <= SRLGS_MAX
+}
+
+fn are_groups(items: &[Value]) -> bool
+    ensures { result ≡ (nat_le (item_count (items_view items.now)) SRLGS_MAX && is_some (numbers_in (items_view items.now))) }
+{
+    are_few(items) && are_whole(items)
+}
+
+#[tactic(auto, using(crate::proofs::Kinding::by_items))]
 fn are_numbers(value: &Value) -> bool
     ensures { result ≡ are_numbers_data (view value.now) }
 {
     match value.as_array() {
-        Some(items) => items.len() <= SRLGS_MAX && are_whole(items.as_slice()),
+        Some(items) => are_groups(items.as_slice()),
         None => false,
     }
 }

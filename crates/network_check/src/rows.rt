@@ -8,7 +8,7 @@ ghost use Rattle.toml.specs.View.{items_view, table_view, view};
 ghost use Rattle.network_check.specs.Sheets.{sheet_of};
 ghost use Rattle.network_check.specs.Columns.{column, columns_text, field_text, is_column, items_text, kind_text, labelled_text, lack_text, member_text, name_in, others_text, row_label, row_text, rows_text, unknown_in, unknown_text, value_text};
 
-use crate::fields::{Field, is_needed, key_of, kind_of};
+use crate::fields::{Field, key_of, kind_of};
 use crate::kinds::{Kind, fits, kind_words};
 use crate::pairs::tell_pairs;
 use crate::places::{Page, key_line, row_line, top_line};
@@ -110,20 +110,22 @@ fn tell_lack(
     requires short { length (lines_of (sheet_of rows.now).text) < 2 ^ 32 }
     ensures { OnOk result (into.new.items ≡ into.old.items ++ lack_text (sheet_of rows.now) index label.now (column field.now)) }
 {
-    if !is_needed(field) {
-        return Ok(());
+    match field {
+        Field::Must(key, kind) => {
+            let line = row_line(rows.page.text, rows.header, index);
+            let what = b" is missing: ";
+            tell_kind(
+                rows.page.file,
+                line,
+                label,
+                key.as_bytes(),
+                what,
+                *kind,
+                into,
+            )
+        }
+        Field::May(_, _) => Ok(()),
     }
-    let key = key_of(field).as_bytes();
-    let line = row_line(rows.page.text, rows.header, index);
-    tell_kind(
-        rows.page.file,
-        line,
-        label,
-        key,
-        b" is missing: ",
-        kind_of(field),
-        into,
-    )
 }
 
 // A key that a row lacks, or whose value it may not have.
@@ -165,7 +167,7 @@ fn is_known(fields: &[Field], key: &str) -> bool
     ensures { result ≡ is_column (map column fields.now) key.now }
 {
     for field in fields {
-        if key_of(field) == key {
+        if key == key_of(field) {
             return true;
         }
     }

@@ -2,7 +2,7 @@
 ghost use Rattle.std.specs.Prelude.{◌≡◌, ◌++◌, ◌<◌, ◌^◌, OnOk, [], length};
 ghost use Rattle.std.specs.List.{list_any};
 ghost use Rattle.std.specs.Str.Lines.{lines as lines_of};
-ghost use Rattle.network_check.specs.Warnings.{element_warnings, elements_warnings, ends_at, is_joined, is_way, leads_out, meets_watch as comes_to_watch, met_warning, peer_warnings, peers_warnings, settings_warnings};
+ghost use Rattle.network_check.specs.Warnings.{element_warnings, elements_warnings, ends_at, is_alone as is_alone_in, is_joined, is_way, leads_out, link_warning, meets_watch as comes_to_watch, met_warning, peer_warnings, peers_warnings, settings_warnings, topology_warning, watch_warning};
 
 use crate::meeting::{first_alike, share};
 use crate::places::{Page, row_line};
@@ -49,6 +49,55 @@ fn is_linked(parts: &NetworkParts, element: &ElementRow) -> bool
         || has_closed_peer(parts.peers.as_slice(), at)
 }
 
+fn is_alone(parts: &NetworkParts, element: &ElementRow) -> bool
+    ensures { result ≡ is_alone_in parts.now element.now }
+{
+    parts.elements.len() > 1 && !is_linked(parts, element)
+}
+
+fn warn_of_topology(
+    file: &[u8],
+    line: u32,
+    element: &ElementRow,
+    into: &mut Vec<u8>,
+) -> Result<(), NoMemory>
+    ensures { OnOk result (into.new.items ≡ into.old.items ++ topology_warning file.now line element.now) }
+{
+    tell_if(
+        element.topology.is_none(),
+        file,
+        line,
+        &[
+            Piece::Text(b"warning element "),
+            Piece::Number(u64::from(element.own.0)),
+            Piece::Text(b" has no topology"),
+        ],
+        into,
+    )
+}
+
+fn warn_of_link(
+    file: &[u8],
+    line: u32,
+    parts: &NetworkParts,
+    element: &ElementRow,
+    into: &mut Vec<u8>,
+) -> Result<(), NoMemory>
+    ensures { OnOk result (into.new.items ≡ into.old.items ++ link_warning file.now line parts.now element.now) }
+{
+    tell_if(
+        is_alone(parts, element),
+        file,
+        line,
+        &[
+            Piece::Text(b"warning element "),
+            Piece::Number(u64::from(element.own.0)),
+            Piece::Text(b" has no link"),
+        ],
+        into,
+    )
+}
+
 fn warn_of_element(
     page: &Page<'_>,
     parts: &NetworkParts,
@@ -60,30 +109,8 @@ fn warn_of_element(
     ensures { OnOk result (into.new.items ≡ into.old.items ++ element_warnings page.now.file.now page.now.text.now parts.now index element.now) }
 {
     let line = row_line(page.text, b"[[element]]", index);
-    let number = u64::from(element.own.0);
-    tell_if(
-        element.topology.is_none(),
-        page.file,
-        line,
-        &[
-            Piece::Text(b"warning element "),
-            Piece::Number(number),
-            Piece::Text(b" has no topology"),
-        ],
-        into,
-    )?;
-    let is_alone = parts.elements.len() > 1 && !is_linked(parts, element);
-    tell_if(
-        is_alone,
-        page.file,
-        line,
-        &[
-            Piece::Text(b"warning element "),
-            Piece::Number(number),
-            Piece::Text(b" has no link"),
-        ],
-        into,
-    )
+    warn_of_topology(page.file, line, element, into)?;
+    warn_of_link(page.file, line, parts, element, into)
 }
 
 fn warn_of_elements(
@@ -139,6 +166,30 @@ fn warn_of_met<'x>(
     }
 }
 
+fn warn_of_watch(
+    file: &[u8],
+    line: u32,
+    watch: Option<u16>,
+    row: &PeerRow,
+    into: &mut Vec<u8>,
+) -> Result<(), NoMemory>
+    ensures { OnOk result (into.new.items ≡ into.old.items ++ watch_warning file.now line watch row.now) }
+{
+    tell_if(
+        meets_watch(watch, row),
+        file,
+        line,
+        &[
+            Piece::Text(b"warning serve refuses peer "),
+            Piece::Name(row.name.as_str().as_bytes()),
+            Piece::Text(b": port "),
+            Piece::Number(u64::from(row.port)),
+            Piece::Text(b" is that of watchers"),
+        ],
+        into,
+    )
+}
+
 fn warn_of_peer(
     page: &Page<'_>,
     watch: Option<u16>,
@@ -152,22 +203,9 @@ fn warn_of_peer(
 {
     let line = row_line(page.text, b"[[peer]]", index);
     warn_of_met(page.file, line, before, row, into)?;
-    tell_if(
-        meets_watch(watch, row),
-        page.file,
-        line,
-        &[
-            Piece::Text(b"warning serve refuses peer "),
-            Piece::Name(row.name.as_str().as_bytes()),
-            Piece::Text(b": port "),
-            Piece::Number(u64::from(row.port)),
-            Piece::Text(b" is that of watchers"),
-        ],
-        into,
-    )
+    warn_of_watch(page.file, line, watch, row, into)
 }
 
-#[tactic(auto, using(crate::proofs::Peers::peers_next))]
 fn warn_of_peers(page: &Page<'_>, parts: &NetworkParts, into: &mut Vec<u8>) -> Result<(), NoMemory>
     requires short { length (lines_of page.now.text.now) < 2 ^ 32 }
     ensures { OnOk result (into.new.items ≡ into.old.items ++ peers_warnings page.now.file.now page.now.text.now parts.now.watch [] parts.now.peers) }
