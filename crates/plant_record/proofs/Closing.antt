@@ -28,6 +28,19 @@ known_close contents c d name bytes o answer is known closes =
     go (Ok x) adds = record { contents = record { names = contents.names; closed = contents.closed ++ (name, bytes) ∷ [] }; is = adds.1; closed = refl }
     go (Err e) same = same ∙ sym is
 
+-- no file is open any more
+pub taken : {F : Type 0} (v s : ScriptState F) (o : Option F) → v ≡ s → o ≡ None → (let u : ScriptState F = record v { file = o } in u) ≡ (let w : ScriptState F = record s { file = None } in w)
+taken v s o same none = ap (λ (x : ScriptState _). let u : ScriptState _ = record x { file = o } in u) same ∙ ap (λ (p : Option _). let u : ScriptState _ = record s { file = p } in u) none
+
+-- how a part is closed
+module _ {F : Type 0} (written : F → Option (List ℕ)) (s u : ScriptState F) (c d : Option Contents) where
+  pub closes_none : s.file ≡ None → d ≡ c → u ≡ record s { file = None } → ClosesPart written (Ok tt) s u c d
+  closes_none none same is = inl (Ok tt, refl, subst (λ (o : Option F). ClosesFile written o s.number (Ok tt) c d) (sym none) same, is)
+
+  pub closes_some : (f : F) (name : List ℕ) (answer : Result (Unit {0}) FolderError) (result : Result (Unit {0}) Fault) → s.file ≡ Some f → name ≡ part_name s.number → is_ok answer ≡ is_ok result → Closes c d name (written f) answer → u ≡ record s { file = None } → ClosesPart written result s u c d
+  closes_some f name answer result file named alike closes is =
+      inl (answer, alike, subst (λ (o : Option F). ClosesFile written o s.number answer c d) (sym file) (subst (λ (n : List ℕ). Closes c d n (written f) answer) named closes), is)
+
 module _ {F : Type 0} (written : F → Option (List ℕ)) (peers : List PeerRow) (t : Title) where
   abbrev S : Type 0
   S = ScriptState F
@@ -121,6 +134,13 @@ module _ {F : Type 0} (written : F → Option (List ℕ)) (peers : List PeerRow)
         text = head ∙ sym (append-nil (head_line t part));
       }
 
+  pub opened_so : (told : List Told) (s w u : S) (c d : Option Contents) (name moment : List ℕ) (file : F) (number event : ℕ) (start : List ℕ) → s ≡ w → IsBetween peers t told s c → Makes written c d name (Ok file) → u.file ≡ Some file → number ≡ s.number + 1 → event ≡ s.events + 1 → start ≡ []
+      → u.number ≡ number → u.loads ≡ s.loads → u.events ≡ s.events → u.tick ≡ s.tick → u.name ≡ s.name → u.version ≡ s.version
+      → u.pending ≡ start ++ codes "# record " ++ w.name ++ codes " part " ++ decimal number ++ codes " tick " ++ decimal w.tick ++ codes " event " ++ decimal event ++ codes " at " ++ moment ++ codes " by " ++ w.version ++ 10 ∷ []
+      → Stands written peers t told u d
+  opened_so told s w u c d name moment file number event start same b makes file_is next first none number_is loads events tick name_is version pending =
+      opened told s u c d name moment file b makes file_is (number_is ∙ next) loads events tick name_is version (pending ∙ rw (none, next, first, ← same) refl)
+
   -- no part is open, and none could be opened
   pub between_breaks : (told more : List Told) (s u : S) (c d : Option Contents) → IsBetween peers t told s c → u.file ≡ s.file → d ≡ c → Breaks written peers t (told ++ more) u d
   between_breaks told more s u c d b file same =
@@ -129,3 +149,7 @@ module _ {F : Type 0} (written : F → Option (List ℕ)) (peers : List PeerRow)
         is_kept = b.is_kept;
         has_part = subst (λ (f : Option F). HasPart written peers t (told ++ more) b.book f u.number) (sym (file ∙ b.none)) (begins_more told more (told_in b.book) ([], b.is ∙ sym (append-nil (told_in b.book))));
       })
+
+  -- none could be opened
+  pub not_opened : (told : List Told) (s u : S) (c d : Option Contents) → IsBetween peers t told s c → u.file ≡ s.file → d ≡ c → Breaks written peers t told u d
+  not_opened told s u c d b file same = subst (λ (es : List Told). Breaks written peers t es u d) (append-nil told) (between_breaks told [] s u c d b file same)

@@ -9,22 +9,15 @@ use Rattle.event_tape.specs.declared.told.Told.{Told}
 use Rattle.event_tape.specs.declared.tape.Handed.{Handed}
 use Rattle.event_tape.specs.declared.tape.TapeEnd.{TapeEnd}
 use Rattle.plant_record.specs.Parts.{Title}
-use Rattle.plant_record.specs.Standing.{Breaks, ScriptState, Stands}
-use Rattle.plant_record.specs.Faults.{HasReason}
+use Rattle.plant_record.specs.Standing.{After, Breaks, ScriptState, Stands}
+use Rattle.plant_record.specs.Faults.{HasReason, IsJudged}
 use Rattle.plant_record.specs.Hands.{AreWhole, Goes, Hands, told_of}
 use Rattle.plant_record.specs.Recording.{Had, HasCause, IsEndBy, IsStray, Leaves, Reaches, Records, TellsEnd}
 use Rattle.plant_record.specs.Steps.{Counts, GoesOn, IsHandTaken, end_of}
 use Rattle.plant_record.specs.declared.fault.Fault.{Fault as WhyFault}
-use Rattle.plant_record.specs.declared.fault.Fault.TheVariants as why
 use Rattle.plant_record.specs.declared.recorded.Recorded.{Recorded}
 use Rattle.plant_record.specs.declared.recorded.Recorded.TheVariants.{Ended, Turns, Spent, Lost, Fault}
-
--- ---- reasons
-
-pub reason_wider : {F : Type 0} (faults : F → ℕ) (before mid now end : ℕ) (fault : WhyFault) → before ≤ mid → now ≤ end → HasReason faults mid now fault → HasReason faults before end fault
-reason_wider faults before mid now end why.Folder low high is = omega (arith, low, high, is)
-reason_wider faults before mid now end why.Write low high is = is
-reason_wider faults before mid now end why.NoMemory low high is = tt
+use Rattle.plant_record.proofs.Reasons.{reason_wider}
 
 -- ---- hands
 
@@ -178,6 +171,32 @@ module _ {F : Type 0} (written : F → Option (List ℕ)) (faults : F → ℕ) (
   hand_turn (Err (Fault fault)) before now old new s u c d h goes (here, reason, low, on) = told_turn (Err (Fault fault)) before now old new s u c d h goes here low reason tt on
   hand_turn (Err Turns) before now old new s u c d h goes is = absurd is
   hand_turn (Err (Spent k)) before now old new s u c d h goes is = absurd is
+
+  -- ---- a hand
+
+  -- nothing of it is told
+  pub lost_hand : (n later : ℕ) (s u : S) (c d : Option Contents) (h : Handed) → h.before ≢ s.events → u ≡ s → d ≡ c → IsHandTaken faults n n h s.events later (Err Lost) (λ end. GoesOn written peers end s u c d)
+  lost_hand n later s u c d h other same stays = (
+    other,
+    omega arith,
+    λ t before st. subst (λ (es : List Told). Stands written peers t es u d) (sym (append-nil before)) (subst (λ (x : Option Contents). Stands written peers t before u x) (sym stays) (subst (λ (v : S). Stands written peers t before v c) (sym same) st)),
+  )
+
+  -- what its events make of the script
+  abbrev pub Writes : Result (Unit {0}) WhyFault → List Told → S → S → Option Contents → Option Contents → Type 0
+  Writes result items s u c d = (t : Title) (before : List Told) → Stands written peers t before s c → After written peers t (before ++ items) result u d
+
+  pub hand_faults : (before now later : ℕ) (s u : S) (c d : Option Contents) (h : Handed) (fault : WhyFault) → h.before ≡ s.events → IsJudged {F = F} {X = Unit {0}} faults before now (Err fault) → Writes (Err fault) h.items s u c d
+      → IsHandTaken faults before now h s.events later (Err (Fault fault)) (λ end. GoesOn written peers end s u c d)
+  hand_faults before now later s u c d h fault here judged writes = (here, judged.1, judged.0, writes)
+
+  pub hand_ends : (before now later : ℕ) (s u : S) (c d : Option Contents) (h : Handed) (why : TapeEnd) → h.before ≡ s.events → h.ended ≡ Some why → before ≤ now → Writes (Ok tt) h.items s u c d
+      → IsHandTaken faults before now h s.events later (Err (Ended why)) (λ end. GoesOn written peers end s u c d)
+  hand_ends before now later s u c d h why here ended low writes = (here, ended, low, writes)
+
+  pub hand_goes : (before now : ℕ) (s u : S) (c d : Option Contents) (h : Handed) → h.before ≡ s.events → u.events ≡ s.events + length h.items → before ≤ now → Writes (Ok tt) h.items s u c d
+      → IsHandTaken faults before now h s.events u.events (Ok h.items) (λ end. GoesOn written peers end s u c d)
+  hand_goes before now s u c d h here counted low writes = (here, counted, low, writes)
 
   pub never_turns : (result : Result (List Told) Recorded) (before now : ℕ) (h : Handed) (events later : ℕ) (Then : Recorded → List Told → Type 0) → IsHandTaken faults before now h events later result Then → result ≢ Err Turns
   never_turns (Ok items) before now h events later Then is same = absurd (let no : Ok items ≡ Err Turns = same in cc)

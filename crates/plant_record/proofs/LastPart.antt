@@ -9,8 +9,9 @@ use Rattle.event_tape.specs.declared.tape.TapeEnd.{TapeEnd}
 use Rattle.plant_record.specs.Parts.{Title, part_name, part_text, tail_by, topologies}
 use Rattle.plant_record.specs.Books.{BeginsWith, Deed, File, files, kept, next_part, part_count, told_in}
 use Rattle.plant_record.specs.Standing.{Breaks, ClosesFile, ClosesPart, HasPart, IsCut, IsCutOff, IsFlushed, IsKept, ScriptState, Stands, written_in}
-use Rattle.plant_record.specs.Recording.{IsLast, IsPart, IsWhole}
+use Rattle.plant_record.specs.Recording.{Concludes, IsLast, IsPart, IsWhole, Leaves}
 use Rattle.plant_record.specs.declared.fault.Fault.{Fault}
+use Rattle.plant_record.specs.declared.recorded.Recorded.{Recorded}
 use Rattle.plant_record.proofs.Standing.{appended, breaks_at, cut_begins, stands_breaks, whole_begins}
 use Rattle.plant_record.proofs.Closing.{IsClosed, file_closed, known_close}
 
@@ -95,6 +96,10 @@ module _ {F : Type 0} (written : F → Option (List ℕ)) (peers : List PeerRow)
             go (Err x) (Ok y) alike same = absurd (let no : false ≡ true = alike in cc)
             go (Err x) (Err y) alike same = left gone same
 
+  -- it had no memory for the last line, so it answers
+  pub unended : (told : List Told) (s v : S) (c : Option Contents) (ended : Option TapeEnd) (result : Result (Unit {0}) Fault) (e : Fault) → result ≡ Err e → Stands written peers t told s c → v.file ≡ s.file → v.number ≡ s.number → MatchResult result (λ _. IsWhole peers t told ended c) (λ _. Breaks written peers t told v c)
+  unended told s v c ended result e is st file number = subst (λ (r : Result (Unit {0}) Fault). MatchResult r (λ _. IsWhole peers t told ended c) (λ _. Breaks written peers t told v c)) (sym is) (not_ended told s v c ended st file number)
+
   -- ---- what was begun is left
 
   first_part : (whole front more : List Told) → BeginsWith whole (front ++ more) → BeginsWith whole front
@@ -102,7 +107,7 @@ module _ {F : Type 0} (written : F → Option (List ℕ)) (peers : List PeerRow)
 
   told_first : (told : List Told) (book : List Deed) (file : Option F) (number : ℕ) → HasPart written peers t told book file number → BeginsWith told (told_in book)
   told_first told book None number is = is
-  told_first told book (Some f) number (bytes, known, count, cut) = first_part told (told_in book) cut.events cut.first
+  told_first told book (Some f) number (bytes, there, count, cut) = first_part told (told_in book) cut.events cut.first
 
   -- nothing is closed
   pub left_so : (told : List Told) (s : S) (c d : Option Contents) → Breaks written peers t told s c → d ≡ c → IsPart peers t told d
@@ -136,3 +141,10 @@ module _ {F : Type 0} (written : F → Option (List ℕ)) (peers : List PeerRow)
       go : (bytes : List ℕ) → s.number ≡ part_count b.book + 1 → IsCut peers t told b.book bytes → (answer : Result (Unit {0}) FolderError) → MatchResult answer (λ _. IsClosed b.is_kept.contents d (part_name s.number, bytes)) (λ _. d ≡ c) → IsPart peers t told d
       go bytes count cut (Ok x) closed = cut_closed told b.book c d s.number bytes b.is_kept count cut closed
       go bytes count cut (Err e) same = left_so told s c d b same
+
+  -- ---- the end
+
+  -- a last part was closed, or a fault came of it
+  pub concluded : (told : List Told) (ended : Option TapeEnd) (end result : Recorded) (d : Option Contents) → (IsWhole peers t told ended d → Leaves peers t told end d) → Concludes peers t told ended end result d → Leaves peers t told result d
+  concluded told ended end result d leaves (inl (same, whole)) = subst (λ (r : Recorded). Leaves peers t told r d) (sym same) (leaves whole)
+  concluded told ended end result d leaves (inr (why, same, part)) = subst (λ (r : Recorded). Leaves peers t told r d) (sym same) part

@@ -1,5 +1,5 @@
 -- The events of a hand, one behind the other.
-use Rattle.std.proofs.Common.{◌≡◌, ℕ, ◌+◌, ◌≤◌, List, [], ◌∷◌, ◌++◌, length, drop, append_assoc, append-nil, Option, Some, None, Result, Ok, Err, refl, sym, ap, subst, ◌∙◌, arith, length-append, MatchResult}
+use Rattle.std.proofs.Common.{◌≡◌, ℕ, ◌+◌, ◌≤◌, List, [], ◌∷◌, ◌++◌, length, drop, append_assoc, append-nil, Option, Some, None, Result, Ok, Err, refl, sym, ap, subst, ◌∙◌, arith, length-append, MatchResult, OnErr, OnOk}
 use Rattle.std.proofs.lemmas.List.{drop_all}
 use Rattle.dom_edge.specs.Folders.{Contents, Makes}
 use Rattle.plant_text.specs.declared.settings.PeerRow.{PeerRow}
@@ -34,6 +34,17 @@ module _ {F : Type 0} (written : F → Option (List ℕ)) (peers : List PeerRow)
 
   pub close_done : (t : Title) (told : List Told) (s u : S) (c d : Option Contents) → Stands written peers t told s c → s.pending ≡ [] → ClosesPart written (Ok tt) s u c d → IsBetween peers t told u d
   close_done t told s u c d st none closes = closed_part written peers t told [] s u c d (Ok tt) st none closes
+
+  pub flush_after : (result : Result (Unit {0}) Fault) (t : Title) (told : List Told) (s u : S) (c : Option Contents) → OnOk result (IsFlushed written s u) → OnErr result (IsCutOff written s u) → Stands written peers t told s c → After written peers t told result u c
+  flush_after (Ok x) t told s u c is cut st = flushed written peers t told s u c is st
+  flush_after (Err e) t told s u c is cut st = flush_fails t told s u c cut st
+
+  pub flush_counts : (result : Result (Unit {0}) Fault) (s u : S) (n : ℕ) → OnOk result (IsFlushed written s u) → s.events ≡ n → OnOk result (u.events ≡ n)
+  flush_counts (Ok x) s u n is at = ap (λ (v : S). v.events) is.others ∙ at
+  flush_counts (Err e) s u n is at = tt
+
+  pub err_after : (result : Result (Unit {0}) Fault) (e : Fault) (t : Title) (told : List Told) (u : S) (d : Option Contents) → result ≡ Err e → Breaks written peers t told u d → After written peers t told result u d
+  err_after result e t told u d is b = subst (λ (r : Result (Unit {0}) Fault). After written peers t told r u d) (sym is) b
 
   -- nothing waits any more
   pub none_waits : (s u : S) → IsFlushed written s u → u.pending ≡ []

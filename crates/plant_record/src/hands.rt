@@ -1,5 +1,6 @@
 //! The events of a hand are written.
 ghost use Rattle.std.specs.Prelude.{◌≡◌, ◌+◌, ◌++◌, ◌∷◌, [], List, IfOk, OnErr, OnOk, length};
+ghost use Rattle.plant_text.specs.declared.settings.PeerRow.{PeerRow};
 ghost use Rattle.event_tape.specs.declared.told.Told.{Told};
 ghost use Rattle.plant_record.specs.Books.{Adds, load_files};
 ghost use Rattle.plant_record.specs.Faults.{IsJudged};
@@ -70,6 +71,24 @@ fn push_told<F: Folder>(
     Ok(())
 }
 
+// The next part begins, where that is due.
+fn turn_due_page<F: Folder>(
+    alloc: Global,
+    folder: &mut F,
+    script: &mut Script<F::File>,
+    moment: Moment,
+) -> Result<(), Fault>
+    ensures after { (peers : List PeerRow) (t : Title) (told : List Told) → Stands F.File.written peers t told script.old (F.contents folder.old) → After F.File.written peers t told result script.new (F.contents folder.new) }
+    ensures counted { OnOk result (script.new.events ≡ script.old.events) }
+    ensures judged { IsJudged F.File.faults (F.faults folder.old) (F.faults folder.new) result }
+{
+    if script.is_over(moment) {
+        turn_page(alloc, folder, script, moment)
+    } else {
+        Ok(())
+    }
+}
+
 // One event: it begins a part where that is due.
 fn write_event<F: Folder>(
     alloc: Global,
@@ -83,10 +102,8 @@ fn write_event<F: Folder>(
     ensures counted { OnOk result (script.new.events ≡ script.old.events + 1) }
     ensures judged { IsJudged F.File.faults (F.faults folder.old) (F.faults folder.new) result }
 {
-    if script.is_over(moment) {
-        if let Err(fault) = turn_page(alloc, folder, script, moment) {
-            return Err(fault);
-        }
+    if let Err(fault) = turn_due_page(alloc, folder, script, moment) {
+        return Err(fault);
     }
     if let Err(fault) = push_told(alloc, folder, script, peers, told) {
         return Err(fault);

@@ -56,6 +56,7 @@ pub(crate) fn open_part<F: Folder>(
     moment: Moment,
 ) -> Result<(), Fault>
     ensures after { (peers : List PeerRow) (t : Title) (told : List Told) → IsBetween peers t told script.old (F.contents folder.old) → After F.File.written peers t told result script.new (F.contents folder.new) }
+    ensures counted { OnOk result (script.new.events ≡ script.old.events) }
     ensures judged { IsJudged F.File.faults (F.faults folder.old) (F.faults folder.new) result }
 {
     let Some(number) = script.number.checked_add(1) else {
@@ -101,6 +102,7 @@ pub(crate) fn turn_page<F: Folder>(
     moment: Moment,
 ) -> Result<(), Fault>
     ensures after { (peers : List PeerRow) (t : Title) (told : List Told) → Stands F.File.written peers t told script.old (F.contents folder.old) → After F.File.written peers t told result script.new (F.contents folder.new) }
+    ensures counted { OnOk result (script.new.events ≡ script.old.events) }
     ensures judged { IsJudged F.File.faults (F.faults folder.old) (F.faults folder.new) result }
 {
     if let Err(fault) = script.flush() {
