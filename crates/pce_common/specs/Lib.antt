@@ -5,6 +5,7 @@ pub mod Ways
 pub mod Membership
 pub mod Owed
 pub mod Rounds
+pub mod Waiting
 -- inner
 pub mod Branches
 -- re-exported from below

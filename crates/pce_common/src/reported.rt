@@ -1,12 +1,13 @@
 //! What a peer reports of requests, by pairs of a type and a value.
 ghost use Rattle.std.specs.Prelude.{◌≡◌, IfOk};
 ghost use Rattle.std.specs.Option.{option_to_list};
+ghost use Rattle.pcep_codes.specs.declared.notices.TheConstants as notices;
 ghost use Rattle.plant_model.specs.Names.{has_pair};
 ghost use Rattle.plant_model.specs.Taking.{error_answer};
 
 use crate::messages::{error_message, reply_message, unavailable};
 use dom_base::NoMemory;
-use pcep_codes::errors;
+use pcep_codes::{errors, notices};
 use pcep_messages::Message;
 use std::alloc::Global;
 
@@ -20,6 +21,26 @@ pub fn has_pair(pairs: &[(u8, u8)], pair: (u8, u8)) -> bool
         }
     }
     false
+}
+
+/// What a notice tells of the requests that it names.
+#[derive(Clone, Copy)]
+pub struct Told {
+    /// There is no room for them.
+    pub busy: bool,
+    /// Their asker gives them up.
+    pub cancelled: bool,
+}
+
+/// What a notice tells, by its types and values.
+pub fn told_by(kinds: &[(u8, u8)]) -> Told
+    ensures busy { result.busy ≡ has_pair notices.BUSY.0 notices.BUSY.1 kinds.now }
+    ensures cancelled { result.cancelled ≡ has_pair notices.CANCELLED.0 notices.CANCELLED.1 kinds.now }
+{
+    Told {
+        busy: has_pair(kinds, notices::BUSY),
+        cancelled: has_pair(kinds, notices::CANCELLED),
+    }
 }
 
 /// What the asker of a request is told when an error is reported of it: nothing where the error is that of

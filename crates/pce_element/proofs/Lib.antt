@@ -5,6 +5,7 @@ pub mod ReadyLemmas
 pub mod LeaveLemmas
 pub mod SearchLemmas
 pub mod EndLemmas
+pub mod TellerLemmas
 pub mod AskLemmas
 pub mod EntryLemmas
 pub mod CommitLemmas

@@ -13,6 +13,7 @@ pub mod Leaving
 pub mod Fields
 pub mod Changes
 pub mod Plans
+pub mod Tellers
 pub mod Endings
 pub mod Answering
 pub mod Committing

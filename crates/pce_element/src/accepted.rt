@@ -3,7 +3,7 @@ ghost use Rattle.std.specs.Prelude.{◌≡◌, None, Some};
 ghost use Rattle.std.specs.Option.{option_copied};
 ghost use Rattle.pce_common.specs.plant_model.Element.{Ready, at_stage, waits_for, waits_on};
 ghost use Rattle.request_table.specs.Pending.{same_peer};
-ghost use Rattle.pce_element.specs.Items.{branches_at, new_item};
+ghost use Rattle.pce_element.specs.Items.{branches_at, id_sent_to, new_item};
 
 use disclosure::Class;
 use dom_base::{As, List, Peer};
@@ -104,6 +104,16 @@ impl<P: Drop> Accepted<P> {
         match self.opening.stage {
             Stage::Waits { on, id: sent } => is_same_peer(on, peer) && sent == id,
             Stage::Ready(_) => false,
+        }
+    }
+
+    /// The id of a peer for whose answer it waits, where it waits for one of that peer.
+    pub fn id_sent_to(&self, peer: Peer) -> Option<u32>
+        ensures { result ≡ id_sent_to peer self.now.stage }
+    {
+        match self.opening.stage {
+            Stage::Waits { on, id } if is_same_peer(on, peer) => Some(id),
+            _ => None,
         }
     }
 

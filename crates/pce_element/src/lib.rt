@@ -23,6 +23,7 @@ mod replying;
 mod searching;
 mod solving;
 mod taking;
+mod tellers;
 mod telling;
 mod topologies;
 mod world;

@@ -9,7 +9,7 @@ ghost use Rattle.pce_element.specs.Rows.{row_of};
 use crate::pinned::{PinnedRequests, Row};
 use crate::world::World;
 use dom_base::Peer;
-use pce_common::{after_id, has_number};
+use pce_common::{Ended, after_id, has_number};
 
 impl<W: World> PinnedRequests<W> {
     /// The request that waits for the answer to an id of a peer, where those of some numbers have
@@ -31,14 +31,14 @@ impl<W: World> PinnedRequests<W> {
     }
 
     /// The number of the request of a peer under an id, where those of some numbers have ended.
-    pub fn asked_still(&self, ended: &[u64], peer: Peer, id: u32) -> Option<u64>
+    pub fn asked_still(&self, ended: &Ended, peer: Peer, id: u32) -> Option<u64>
         ensures { result ≡ number_of (all_closed ended.now self.now.pending) peer id }
     {
         let _count = self.len();
         let Some(number) = self.asked(peer, id) else {
             return None;
         };
-        if has_number(ended, number) {
+        if ended.has(number) {
             None
         } else {
             Some(number)

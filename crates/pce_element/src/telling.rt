@@ -1,35 +1,36 @@
 //! What an element does with notices and errors, which end requests one after the other.
 ghost use Rattle.std.specs.Prelude.{◌≡◌, ◌++◌, ◌∷◌, [], IfOk, OnOk};
 ghost use Rattle.pce_common.specs.plant_model.Element.{each, waiting};
-ghost use Rattle.pce_common.specs.plant_model.Taking.{notice_steps, take_busy, take_cancel, take_errors, take_failure, take_notice, take_report};
+ghost use Rattle.pce_common.specs.plant_model.Taking.{take_busy, take_cancel, take_errors, take_failure, take_notice, take_report};
 ghost use Rattle.pce_element.specs.Changes.{IsDraft};
-ghost use Rattle.pce_element.specs.Endings.{after, reached, failing};
+ghost use Rattle.pce_element.specs.Endings.{after, reached, failing, steps_of};
+ghost use Rattle.pce_element.specs.Tellers.{Knows};
 
 use crate::change::{Change, Draft, DraftIn};
 use crate::element::Element;
 use crate::pinned::Row;
+use crate::tellers::Teller;
 use crate::world::World;
 use dom_base::{List, NoMemory, Peer};
 use pce_common::model::{Output, Outputs};
-use pce_common::{busy, error_answer, has_pair};
-use pcep_codes::notices;
+use pce_common::{Ended, Told, busy, error_answer, notices_name_many, reports_name_many, told_by};
 use pcep_messages::{ErrorReport, Message, Notice};
 use std::alloc::Global;
 
 /// Requests that are to end, and what is sent.
 #[derive(Drop)]
 pub(crate) struct Ending {
-    pub numbers: List<u64>,
+    pub numbers: Ended,
     pub outputs: Outputs,
 }
 
 impl Ending {
-    fn new(alloc: Global) -> Ending
+    fn new(alloc: Global, many: bool) -> Ending
         ensures numbers { result.numbers ≡ [] }
         ensures outputs { result.outputs ≡ [] }
     {
         Ending {
-            numbers: List::new(alloc),
+            numbers: Ended::new(alloc, many),
             outputs: List::new(alloc),
         }
     }
@@ -47,12 +48,16 @@ impl Ending {
 
 impl<W: World> Element<W> {
     // The next has no room for a request.
-    fn take_busy(&self, ending: &mut Ending, peer: Peer, rp: (u32, u32)) -> Result<(), NoMemory>
-        ensures { OnOk result (reached self.now.losing.element ending.new ≡ after (reached self.now.losing.element ending.old) (take_busy peer rp)) }
+    fn take_busy(
+        &self,
+        ending: &mut Ending,
+        teller: &Teller,
+        rp: (u32, u32),
+    ) -> Result<(), NoMemory>
+        requires { Knows self.now.losing.element.pending.rows teller.now }
+        ensures { OnOk result (reached self.now.losing.element ending.new ≡ after (reached self.now.losing.element ending.old) (take_busy teller.now.peer rp)) }
     {
-        let waiting = self
-            .requests()
-            .waiting(ending.numbers.as_slice(), peer, rp.1);
+        let waiting = self.requests().still_waiting(teller, &ending.numbers, rp.1);
         let Some(row) = waiting else {
             return Ok(());
         };
@@ -64,9 +69,7 @@ impl<W: World> Element<W> {
     fn take_cancel(&self, ending: &mut Ending, peer: Peer, rp: (u32, u32)) -> Result<(), NoMemory>
         ensures { OnOk result (reached self.now.losing.element ending.new ≡ after (reached self.now.losing.element ending.old) (take_cancel peer rp)) }
     {
-        let asked = self
-            .requests()
-            .asked_still(ending.numbers.as_slice(), peer, rp.1);
+        let asked = self.requests().asked_still(&ending.numbers, peer, rp.1);
         match asked {
             Some(number) => ending.numbers.push(number),
             None => Ok(()),
@@ -74,29 +77,37 @@ impl<W: World> Element<W> {
     }
 
     // The steps of one id of a notice.
-    fn take_noted(
+    fn take_told(
         &self,
         ending: &mut Ending,
-        peer: Peer,
-        kinds: &[(u8, u8)],
+        teller: &Teller,
+        told: Told,
         rp: (u32, u32),
     ) -> Result<(), NoMemory>
-        ensures { OnOk result (reached self.now.losing.element ending.new ≡ after (reached self.now.losing.element ending.old) (each (λ step. step peer rp) (notice_steps kinds.now))) }
+        requires { Knows self.now.losing.element.pending.rows teller.now }
+        ensures { OnOk result (reached self.now.losing.element ending.new ≡ after (reached self.now.losing.element ending.old) (each (λ step. step teller.now.peer rp) (steps_of told))) }
     {
-        if has_pair(kinds, notices::BUSY) {
-            self.take_busy(ending, peer, rp)?;
+        if told.busy {
+            self.take_busy(ending, teller, rp)?;
         }
-        if has_pair(kinds, notices::CANCELLED) {
-            self.take_cancel(ending, peer, rp)?;
+        if told.cancelled {
+            self.take_cancel(ending, teller.peer, rp)?;
         }
         Ok(())
     }
 
-    fn take_notice(&self, ending: &mut Ending, peer: Peer, notice: &Notice) -> Result<(), NoMemory>
-        ensures { OnOk result (reached self.now.losing.element ending.new ≡ after (reached self.now.losing.element ending.old) (take_notice peer notice.now)) }
+    fn take_notice(
+        &self,
+        ending: &mut Ending,
+        teller: &Teller,
+        notice: &Notice,
+    ) -> Result<(), NoMemory>
+        requires { Knows self.now.losing.element.pending.rows teller.now }
+        ensures { OnOk result (reached self.now.losing.element ending.new ≡ after (reached self.now.losing.element ending.old) (take_notice teller.now.peer notice.now)) }
     {
+        let told = told_by(notice.kinds.as_slice());
         for rp in notice.ids.as_slice() {
-            self.take_noted(ending, peer, notice.kinds.as_slice(), *rp)?;
+            self.take_told(ending, teller, told, *rp)?;
         }
         Ok(())
     }
@@ -109,12 +120,14 @@ impl<W: World> Element<W> {
     ) -> Result<DraftIn<W>, NoMemory>
         ensures { IfOk result (IsDraft self.now (each (take_notice peer) notices.now self.now.losing.element)) }
     {
-        let mut ending = Ending::new(self.alloc);
+        let many = notices_name_many(notices);
+        let teller = self.requests().teller(self.alloc, peer, many)?;
+        let mut ending = Ending::new(self.alloc, many);
         for notice in notices {
-            self.take_notice(&mut ending, peer, notice)?;
+            self.take_notice(&mut ending, &teller, notice)?;
         }
         Ok(Draft {
-            change: Change::Ends(ending.numbers),
+            change: Change::Ends(ending.numbers.into_list()),
             outputs: ending.outputs,
         })
     }
@@ -123,15 +136,14 @@ impl<W: World> Element<W> {
     fn take_failure(
         &self,
         ending: &mut Ending,
-        peer: Peer,
+        teller: &Teller,
         error: (u8, u8),
         rp: (u32, u32),
     ) -> Result<(), NoMemory>
-        ensures { OnOk result (reached self.now.losing.element ending.new ≡ after (reached self.now.losing.element ending.old) (failing peer error rp)) }
+        requires { Knows self.now.losing.element.pending.rows teller.now }
+        ensures { OnOk result (reached self.now.losing.element ending.new ≡ after (reached self.now.losing.element ending.old) (failing teller.now.peer error rp)) }
     {
-        let waiting = self
-            .requests()
-            .waiting(ending.numbers.as_slice(), peer, rp.1);
+        let waiting = self.requests().still_waiting(teller, &ending.numbers, rp.1);
         let Some(row) = waiting else {
             return Ok(());
         };
@@ -144,16 +156,17 @@ impl<W: World> Element<W> {
     fn take_report(
         &self,
         ending: &mut Ending,
-        peer: Peer,
+        teller: &Teller,
         report: &ErrorReport,
     ) -> Result<(), NoMemory>
-        ensures { OnOk result (reached self.now.losing.element ending.new ≡ after (reached self.now.losing.element ending.old) (take_report peer report.now)) }
+        requires { Knows self.now.losing.element.pending.rows teller.now }
+        ensures { OnOk result (reached self.now.losing.element ending.new ≡ after (reached self.now.losing.element ending.old) (take_report teller.now.peer report.now)) }
     {
         let Some(error) = report.errors.as_slice().first() else {
             return Ok(());
         };
         for rp in report.ids.as_slice() {
-            self.take_failure(ending, peer, *error, *rp)?;
+            self.take_failure(ending, teller, *error, *rp)?;
         }
         Ok(())
     }
@@ -166,12 +179,14 @@ impl<W: World> Element<W> {
     ) -> Result<DraftIn<W>, NoMemory>
         ensures { IfOk result (IsDraft self.now (each (take_report peer) reports.now self.now.losing.element)) }
     {
-        let mut ending = Ending::new(self.alloc);
+        let many = reports_name_many(reports);
+        let teller = self.requests().teller(self.alloc, peer, many)?;
+        let mut ending = Ending::new(self.alloc, many);
         for report in reports {
-            self.take_report(&mut ending, peer, report)?;
+            self.take_report(&mut ending, &teller, report)?;
         }
         Ok(Draft {
-            change: Change::Ends(ending.numbers),
+            change: Change::Ends(ending.numbers.into_list()),
             outputs: ending.outputs,
         })
     }

@@ -102,10 +102,13 @@ pub sought_gone : (s : Sought) (ns : List ℕ) (k : ℕ) (rows : List AskingRow)
 sought_gone s ns k rows h at_k gone =
     ap (λ (rs : List AskingRow). first_sought s (without_these ns rs)) (dropped_next rows k h at_k) ∙ rw gone refl
 
-pub sought_other : (s : Sought) (ns : List ℕ) (k : ℕ) (rows : List AskingRow) (h : AskingRow) → slice_get rows k ≡ Some h → has_number h.0 ns ≡ false → is_sought s h ≡ false →
+pub sought_other : (s : Sought) (ns : List ℕ) (k : ℕ) (rows : List AskingRow) (h : AskingRow) → slice_get rows k ≡ Some h → is_sought s h ≡ false →
     first_sought s (without_these ns (drop k rows)) ≡ first_sought s (without_these ns (drop (k + 1) rows))
-sought_other s ns k rows h at_k stays other =
-    ap (λ (rs : List AskingRow). first_sought s (without_these ns rs)) (dropped_next rows k h at_k) ∙ rw (stays, other) refl
+sought_other s ns k rows h at_k other =
+    elim (cases_Bool (has_number h.0 ns)) [
+      | inl gone ↦ sought_gone s ns k rows h at_k gone
+      | inr stays ↦ ap (λ (rs : List AskingRow). first_sought s (without_these ns rs)) (dropped_next rows k h at_k) ∙ rw (stays, other) refl
+    ]
 
 -- ---- one more number
 

@@ -13,6 +13,7 @@ mod Walking
 mod ScanLaws
 mod Leaving
 mod Gone
+mod TellerLaws
 mod Sends
 mod Ends
 mod Answering

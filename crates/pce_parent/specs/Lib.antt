@@ -13,6 +13,7 @@ pub mod AskingFields
 pub mod Answered
 pub mod Sending
 pub mod Soughts
+pub mod Tellers
 pub mod Endings
 pub mod Changes
 pub mod Plans

@@ -27,6 +27,7 @@ mod sought;
 mod spot;
 mod starts;
 mod taking;
+mod tellers;
 mod tight;
 mod told;
 mod wait;

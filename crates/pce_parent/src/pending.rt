@@ -1,5 +1,6 @@
 //! The pending requests of the parent, one by one.
-ghost use Rattle.std.specs.Prelude.{◌≡◌, ◌≤◌, ◌<◌, ◌+◌, ◌++◌, ◌∷◌, [], length, slice_get, Some, MatchOption};
+ghost use Rattle.std.specs.Prelude.{◌≡◌, ◌≤◌, ◌<◌, ◌+◌, ◌++◌, ◌∷◌, [], length, nat_eq, slice_get, None, Some, MatchOption};
+ghost use Rattle.std.specs.Map.{lookup};
 ghost use Rattle.std.specs.VecDeque.{deque_capacity, deque_len};
 ghost use Rattle.request_table.specs.Pending.{ArePending, closed_of, item_of};
 ghost use Rattle.pce_common.specs.plant_model.Parent.{kept, lost, ready_numbers};
@@ -36,6 +37,20 @@ pub fn row_at(requests: &Requests<Asking>, k: usize) -> Option<Row<'_>>
         key: held.key,
         item: &held.item,
     })
+}
+
+/// The request of a number.
+pub fn row_with(requests: &Requests<Asking>, number: u64) -> Option<Row<'_>>
+    ensures row { MatchOption result (lookup (nat_eq number) requests.now.kept.rows ≡ None) (λ row. lookup (nat_eq number) requests.now.kept.rows ≡ Some (row_of row).1) }
+    ensures number { MatchOption result (Unit {0}) (λ row. row.number ≡ number) }
+{
+    let Some(item) = requests.get(number) else {
+        return None;
+    };
+    let Some(key) = requests.key(number) else {
+        unreachable!()
+    };
+    Some(Row { number, key, item })
 }
 
 /// The number of the k-th request that can be solved.

@@ -46,7 +46,7 @@ pub fn find<'a>(requests: &'a Requests<Asking>, ended: &[u64], sought: Sought) -
         let Some(row) = row_at(requests, i) else {
             unreachable!()
         };
-        if !has_number(ended, row.number) && sought.is(row) {
+        if sought.is(row) && !has_number(ended, row.number) {
             return Some(row);
         }
     }

@@ -55,6 +55,13 @@ impl Wait {
         self.target
     }
 
+    /// The id for whose answer it waits.
+    pub fn id(&self) -> u32
+        ensures { result ≡ self.now.id }
+    {
+        self.id
+    }
+
     /// Whether it waits for the answer to an id of a peer.
     pub fn is_for(&self, peer: Peer, id: u32) -> bool
         ensures { result ≡ same_id self.now.peer self.now.id peer id }

@@ -10,6 +10,5 @@ returns-in-Some g c =
     let k = c.args.self.now.losing.element in
     let e = c.args.ending.now in
     let found : number_of (all_closed e.numbers k.pending) c.args.peer c.args.rp.1 ≡ Some c.in-Some.number =
-    ap (λ (ns : List ℕ). number_of (all_closed ns k.pending) c.args.peer c.args.rp.1) (sym c.as_slice.ensures)
-    ∙ ap (λ (p : Pending (Item _)). number_of (all_closed c.as_slice.result.now p) c.args.peer c.args.rp.1) (sym c.requests.ensures.pending) ∙ sym c.asked_still-asked.ensures ∙ c.in-Some.is in
+    ap (λ (p : Pending (Item _)). number_of (all_closed e.numbers p) c.args.peer c.args.rp.1) (sym c.requests.ensures.pending) ∙ sym c.asked_still-asked.ensures ∙ c.in-Some.is in
     on_ok c.push.result (λ pushed. cancel_some k e (record { numbers = c.push.new.self; outputs = e.outputs }) c.args.peer c.args.rp c.in-Some.number found pushed refl) c.push.ensures.ok

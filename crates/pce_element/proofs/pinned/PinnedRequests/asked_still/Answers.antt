@@ -5,10 +5,10 @@ use Rattle.pce_element.proofs.pinned.PinnedRequests.asked_still.Goals as goal
 pub returns-in_default : goal.returns-in_default
 returns-in_default g c = sym (nobody_asked c.args.ended.now c.args.self.now.pending c.args.peer c.args.id c.len-count.ensures.rules (sym c.in_default.ensures))
 
-pub returns-then-has_number : goal.returns-then-has_number
-returns-then-has_number g c =
-    sym (asked_ended c.args.ended.now c.args.self.now.pending c.args.peer c.args.id c.in-Some.number c.len-count.ensures.rules (sym c.in-Some.ensures) (sym c.has_number.ensures ∙ c.if-has_number.true))
+pub returns-then-has : goal.returns-then-has
+returns-then-has g c =
+    sym (asked_ended c.args.ended.now c.args.self.now.pending c.args.peer c.args.id c.in-Some.number c.len-count.ensures.rules (sym c.in-Some.ensures) (sym c.has.ensures ∙ c.if-has.true))
 
-pub returns-else-has_number : goal.returns-else-has_number
-returns-else-has_number g c =
-    sym (asked_is_left c.args.ended.now c.args.self.now.pending c.args.peer c.args.id c.in-Some.number c.len-count.ensures.rules (sym c.in-Some.ensures) (sym c.has_number.ensures ∙ c.if-has_number.false))
+pub returns-else-has : goal.returns-else-has
+returns-else-has g c =
+    sym (asked_is_left c.args.ended.now c.args.self.now.pending c.args.peer c.args.id c.in-Some.number c.len-count.ensures.rules (sym c.in-Some.ensures) (sym c.has.ensures ∙ c.if-has.false))

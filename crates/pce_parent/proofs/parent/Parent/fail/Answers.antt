@@ -8,32 +8,36 @@ use Rattle.pce_parent.specs.ParentFields.{parent_of}
 use Rattle.pce_parent.specs.Pendings.{row_of}
 use Rattle.pce_parent.specs.Seen.{Seen}
 use Rattle.pce_parent.specs.Soughts.{first_sought, without_these}
+use Rattle.pce_parent.specs.Tellers.{Knows}
 use Rattle.pce_parent.proofs.ScanLaws.{on_ok}
 use Rattle.pce_common.specs.plant_model.Taking.{error_answer}
 use Rattle.pce_parent.proofs.Telling.{fail_none, fail_some}
 use Rattle.pce_parent.proofs.parent.Parent.fail.Goals as goal
+
+pub find_waiting-requires : goal.find_waiting-requires
+find_waiting-requires c = subst (λ (s : Seen). Knows s.losing.parent.pending.rows c.args.teller.now) (sym c.self.view_is) c.requires
 
 pub returns-in_default : goal.returns-in_default
 returns-in_default c =
     let a = c.self.inside in
     let e = c.args.ending.now in
     let rp = c.args.rp in
-    let found : first_sought (Awaited c.args.peer rp.1) (without_these e.numbers.items a.requests.kept.rows) ≡ None =
-    subst (λ (ns : List ℕ). first_sought (Awaited c.args.peer rp.1) (without_these ns a.requests.kept.rows) ≡ None) c.numbers.ensures c.in_default.ensures.row in
-    subst (λ (s : Seen). GoesOn s.losing.parent (λ q. take_failure c.args.error q (waiting c.args.peer rp.1 q.pending.rows)) e e) c.self.view_is
-    (fail_none (parent_of a) c.in_default.ensures.rules c.args.peer rp e c.args.error found)
+    let found : first_sought (Awaited c.args.teller.now.peer rp.1) (without_these e.numbers.items a.requests.kept.rows) ≡ None =
+    subst (λ (ns : List ℕ). first_sought (Awaited c.args.teller.now.peer rp.1) (without_these ns a.requests.kept.rows) ≡ None) c.numbers.ensures c.in_default.ensures.row in
+    subst (λ (s : Seen). GoesOn s.losing.parent (λ q. take_failure c.args.error q (waiting c.args.teller.now.peer rp.1 q.pending.rows)) e e) c.self.view_is
+    (fail_none (parent_of a) c.in_default.ensures.rules c.args.teller.now.peer rp e c.args.error found)
 
 pub returns-in-Some-2 : goal.returns-in-Some-2
 returns-in-Some-2 c =
     let a = c.self.inside in
     let e = c.args.ending.now in
     let rp = c.args.rp in
-    let found : first_sought (Awaited c.args.peer rp.1) (without_these e.numbers.items a.requests.kept.rows) ≡ Some (row_of c.in-Some.row) =
-    subst (λ (ns : List ℕ). first_sought (Awaited c.args.peer rp.1) (without_these ns a.requests.kept.rows) ≡ Some (row_of c.in-Some.row)) c.numbers.ensures c.in-Some.ensures.row in
+    let found : first_sought (Awaited c.args.teller.now.peer rp.1) (without_these e.numbers.items a.requests.kept.rows) ≡ Some (row_of c.in-Some.row) =
+    subst (λ (ns : List ℕ). first_sought (Awaited c.args.teller.now.peer rp.1) (without_these ns a.requests.kept.rows) ≡ Some (row_of c.in-Some.row)) c.numbers.ensures c.in-Some.ensures.row in
     let new = c.answer.new.self in
     let h : AskingRow = row_of c.in-Some.row in
     let m = c.in-Some-2.message in
     let says : m ∷ [] ≡ error_answer c.args.error h.1.item.flags h.1.key.id = sym (ap (λ (o : Option Message). option_to_list o) c.in-Some-2.is) ∙ c.in_ok-error_answer.ensures ∙ ap (λ (f : ℕ). error_answer c.args.error f h.1.key.id) c.flags.ensures in
-    on_ok c.answer.result _ (GoesOn c.args.self.now.losing.parent (λ q. take_failure c.args.error q (waiting c.args.peer rp.1 q.pending.rows)) e new) (λ step.
-    subst (λ (s : Seen). GoesOn s.losing.parent (λ q. take_failure c.args.error q (waiting c.args.peer rp.1 q.pending.rows)) e new) c.self.view_is
-    (fail_some (parent_of a) c.in-Some.ensures.rules c.args.peer rp e c.args.error h m new found says (step (parent_of a)))) c.answer.ensures
+    on_ok c.answer.result _ (GoesOn c.args.self.now.losing.parent (λ q. take_failure c.args.error q (waiting c.args.teller.now.peer rp.1 q.pending.rows)) e new) (λ step.
+    subst (λ (s : Seen). GoesOn s.losing.parent (λ q. take_failure c.args.error q (waiting c.args.teller.now.peer rp.1 q.pending.rows)) e new) c.self.view_is
+    (fail_some (parent_of a) c.in-Some.ensures.rules c.args.teller.now.peer rp e c.args.error h m new found says (step (parent_of a)))) c.answer.ensures

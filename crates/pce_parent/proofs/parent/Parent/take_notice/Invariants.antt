@@ -4,4 +4,4 @@ use Rattle.pce_parent.specs.Endings.{given_by, then_given}
 use Rattle.pce_parent.proofs.parent.Parent.take_notice.Given as goal
 
 abbrev pub invariant-loop-rp : goal.invariant-loop-rp
-invariant-loop-rp l = then_given (given_by l.self.losing.parent l.initial.ending) (each (λ rp. each (λ step. step l.peer rp) (notice_steps l.notice.kinds)) l.notice.ids) ≡ then_given (given_by l.self.losing.parent l.ending) (each (λ rp. each (λ step. step l.peer rp) (notice_steps l.notice.kinds)) (drop l.rp-index l.notice.ids))
+invariant-loop-rp l = then_given (given_by l.self.losing.parent l.initial.ending) (each (λ rp. each (λ step. step l.teller.peer rp) (notice_steps l.notice.kinds)) l.notice.ids) ≡ then_given (given_by l.self.losing.parent l.ending) (each (λ rp. each (λ step. step l.teller.peer rp) (notice_steps l.notice.kinds)) (drop l.rp-index l.notice.ids))
