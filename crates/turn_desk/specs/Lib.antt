@@ -1,5 +1,7 @@
 -- for readers
 pub mod Histories
+pub mod Seats
+pub mod Opened
 pub mod Desks
 pub mod Standings
 pub mod Charts

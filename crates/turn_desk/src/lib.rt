@@ -17,6 +17,7 @@ mod line;
 mod notes;
 mod rounds;
 mod standing;
+mod taping;
 mod turns;
 mod workbench;
 mod working;

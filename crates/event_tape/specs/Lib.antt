@@ -1,0 +1,5 @@
+-- for readers
+pub mod Tapes
+-- inner
+pub mod Fields
+pub mod Counting
