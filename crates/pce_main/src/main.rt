@@ -37,8 +37,11 @@ path NET SRC DST AS ..
 path NET SRC DST parent AS
                     asks for a path from that domain, whose domains the parent finds
 play NET            reads a script of events, plays it on a network, writes its transcript
+replay NET [FROM TO]
+                    plays a script of any length as it comes, as the record of a server, up to its last
+                    whole line, writes the transcript of these lines, or of all
 serve NET           serves a network at the ports of its peers until it is ended by a signal: reads lines
-                    `load AS FILE` and `change AS FILE`, writes what came of each
+                    `load AS FILE`, `change AS FILE` and `stop`, which ends it, writes what came of each
 blind NET           reads a script whose solves have border tables, plays it on a network without
                     topologies, writes what closed peers hear
 bulk N              draws a large network and N requests (1 to 8000), writes what they are answered in all
@@ -46,7 +49,8 @@ bulk N              draws a large network and N requests (1 to 8000), writes wha
 --version           writes the versions of the program and of the toolchain
 
 Files that settings and scripts name are looked for in the folder of the settings. `serve` listens at
-the address in the variable PCE_LISTEN (`all` for all of the machine), or without it at 127.0.0.1.
+the address in the variable PCE_LISTEN (`all` for all of the machine), or without it at 127.0.0.1. Where
+PCE_RECORD names a folder, from `/` on, it writes a record of all that it does into a new folder there.
 ";
 
 const VERSION: &str = "pce 0.1.0, proved with rattle-kit-13f logic dac8208d650f15bf\n";
@@ -73,7 +77,7 @@ fn words_of(rt: &HostRuntime) -> Result<Vec<String>, Status> {
 
 // Whether the word behind this command is the file of a network's settings.
 fn takes_settings(verb: &str) -> bool {
-    matches!(verb, "path" | "play" | "blind" | "serve")
+    matches!(verb, "path" | "play" | "replay" | "blind" | "serve")
 }
 
 // A file's folder and its name there; none where the name begins in the working folder.

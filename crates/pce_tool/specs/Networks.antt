@@ -27,15 +27,9 @@ use Rattle.plant_client.specs.Telling.{told_text}
 use Rattle.pce_tool.specs.declared.route.Route.{Route}
 use Rattle.pce_tool.specs.Parts.{IsFileStatus}
 use Rattle.pce_tool.specs.Run.{Ends}
-use Rattle.pce_tool.specs.Tasks.{Task, Blind, Bulk, Domain, Path, Play}
-
--- the bytes are no settings, for that reason; a fault of settings has no line
-abbrev pub IsSettingsFault : List ℕ → ℕ → NetFault → Type 0
-IsSettingsFault bytes line fault = (line ≡ 0) × IsFaulty bytes fault
-
--- why settings were not read
-abbrev pub IsSettingsStatus : World → List ℕ → Status → Type 0
-IsSettingsStatus w name s = IsFileStatus w.files name settings_max IsSettingsFault w.store_faults w.failed_at s
+use Rattle.pce_tool.specs.Tasks.{Task, Blind, Bulk, Domain, Path, Play, Replay}
+use Rattle.pce_tool.specs.Around.{IsSettingsStatus, around_of}
+use Rattle.pce_tool.specs.Replays.{ReplayEnds}
 
 -- the script in the input
 pub record HasScript (input : Option (List ℕ)) (script : List ℕ) : Type 0 where
@@ -48,10 +42,6 @@ IsScriptStatus input counts status.ReadFault = HasRisen counts
 IsScriptStatus input counts status.NoMemory = Unit {0}
 IsScriptStatus input counts (status.TooLarge name) = (name ≡ input_name) × IfSome input (λ left. script_most < length left)
 IsScriptStatus input counts s = ⊥
-
--- what a script meets of the world outside a run
-abbrev pub around_of : World → Around
-around_of w = around w.files (w.before, w.after) w.store_faults w.output_faults w.failed_at
 
 -- the status of a run whose script stopped
 abbrev pub status_of : Stop → Status
@@ -201,6 +191,7 @@ abbrev pub Runs : World → Option Task → Status → Type 0
 Runs w None s = (s ≡ status.Usage) × WroteNothing w
 Runs w (Some (Domain c)) s = Ends w c s
 Runs w (Some (Play net)) s = PlayEnds w net s
+Runs w (Some (Replay net span)) s = ReplayEnds w net span s
 Runs w (Some (Blind net)) s = BlindEnds w net s
 Runs w (Some (Path net route)) s = PathEnds w net route s
 Runs w (Some (Bulk n)) s = BulkEnds w n s

@@ -6,6 +6,7 @@ pub mod Scripts
 pub mod Logs
 pub mod Cues
 pub mod WholeScripts
+pub mod Replays
 -- inner
 pub mod LogFields
 pub mod Making

@@ -9,6 +9,7 @@ mod going;
 mod lines;
 mod log;
 mod player;
+mod replay;
 mod script;
 mod showing;
 
@@ -18,6 +19,7 @@ pub use log::Log;
 pub use network_files::FileError as PlayError;
 pub use plant_network::model::Outcome;
 pub use player::Player;
+pub use replay::{Span, replay};
 pub use script::{SCRIPT_MAX, play_script};
 pub use showing::Modes;
 pub use transcript::Stop;

@@ -28,7 +28,7 @@ use Rattle.transcript.specs.Lines.{answer_line}
 use Rattle.ted_watch.specs.declared.shown.Shown.{Shown}
 use Rattle.ted_watch.specs.Published.{generation_of, last_of}
 use Rattle.server_loops.specs.Charts.{Call, Charted, Current, Did, Mapped}
-use Rattle.server_loops.specs.Texts.{bad_line_text, bad_network_text, read_fault_text, too_large_text}
+use Rattle.server_loops.specs.Texts.{bad_line_text, bad_network_text, read_fault_text, stop_text, too_large_text}
 use Rattle.server_loops.specs.declared.operating.Operated.{Operated}
 use Rattle.server_loops.specs.declared.operating.Operated.TheVariants.{End, ReadFault, Turns, Spent, NoMemory}
 
@@ -158,6 +158,7 @@ DoesAsked x number None a b w = Says (bad_line_text number) w
 DoesAsked x number (Some None) a b w = Says [] w
 DoesAsked x number (Some (Some (line.Load at name))) a b w = WithFile x number name a b (λ file. LoadsFile x.network number at name file a.past.shown) w
 DoesAsked x number (Some (Some (line.Change at name))) a b w = WithFile x number name a b (λ file. ChangesFile x.network number at name file a.past.shown) w
+DoesAsked x number (Some (Some line.Stop)) a b w = Says (stop_text number) w
 DoesAsked x number (Some (Some e)) a b w = Says (bad_line_text number) w
 
 -- what a line of this number does between two stages

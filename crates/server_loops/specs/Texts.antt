@@ -32,6 +32,10 @@ bad_line_text n = numbered n (codes "bad line")
 abbrev pub bad_network_text : ℕ → List ℕ → ℕ → NetFault → List ℕ
 bad_network_text n name line why = numbered n (codes "bad network " ++ name ++ 32 ∷ [] ++ decimal line ++ 32 ∷ [] ++ fault_text why)
 
+-- serving is to end
+abbrev pub stop_text : ℕ → List ℕ
+stop_text n = numbered n (codes "ok")
+
 abbrev pub read_fault_text : ℕ → List ℕ
 read_fault_text n = numbered n (codes "read fault")
 

@@ -1,11 +1,12 @@
 //! A line of an operator, as it comes in.
 ghost use Rattle.std.specs.Prelude.{◌≡◌, ◌≢◌, ◌≤◌, ◌∷◌, ◌++◌, ◌||◌, [], ℕ, List, None, Some, OnOk, IfErr, codes, false, length, nat_lt, true};
 ghost use Rattle.ted_watch.specs.Watch.{list_of, published};
-ghost use Rattle.server_loops.specs.Operating.{AreOfElements, Does, DoesAsked, context, line_most, past, progress};
+ghost use Rattle.ted_watch.specs.declared.shown.Shown.{Shown};
+ghost use Rattle.server_loops.specs.Operating.{AreOfElements, Does, DoesAsked, Says, context, line_most, past, progress};
 ghost use Rattle.plant_text.specs.OperatorLines.{line_in};
-ghost use Rattle.server_loops.specs.OperatorSteps.{EndsAs, Goes, IsBegun, file_of, text_of};
+ghost use Rattle.server_loops.specs.OperatorSteps.{EndsAs, Goes, IsBegun, errand_of, text_of};
 ghost use Rattle.server_loops.specs.Sites.{Stays};
-ghost use Rattle.server_loops.specs.Texts.{bad_line_text, too_large_text};
+ghost use Rattle.server_loops.specs.Texts.{bad_line_text, stop_text, too_large_text};
 ghost use Rattle.server_loops.specs.declared.operating.Operated.TheVariants.{NoMemory};
 
 use crate::charts::Chart;
@@ -101,18 +102,25 @@ impl Begun {
     }
 }
 
-// The file that a line names, behind whether it has changes.
-fn file_of(asked: OperatorLine) -> Option<(bool, As, Text)>
-    ensures { result ≡ file_of asked }
+// What a line asks for: a file of an element, by whether it has changes; that serving ends; or nothing that is done here.
+#[derive(Drop)]
+pub(crate) enum Errand {
+    File(bool, As, Text),
+    Stop,
+    Nothing,
+}
+
+fn errand_of(asked: OperatorLine) -> Errand
+    ensures { result ≡ errand_of asked }
 {
     match asked {
-        OperatorLine::Load(at, name) => Some((false, at, name)),
-        OperatorLine::Change(at, name) => Some((true, at, name)),
-        OperatorLine::Stop => None,
-        OperatorLine::Show(_) => None,
-        OperatorLine::Shut(_) => None,
-        OperatorLine::Break(..) => None,
-        OperatorLine::Write(..) => None,
+        OperatorLine::Load(at, name) => Errand::File(false, at, name),
+        OperatorLine::Change(at, name) => Errand::File(true, at, name),
+        OperatorLine::Stop => Errand::Stop,
+        OperatorLine::Show(_) => Errand::Nothing,
+        OperatorLine::Shut(_) => Errand::Nothing,
+        OperatorLine::Break(..) => Errand::Nothing,
+        OperatorLine::Write(..) => Errand::Nothing,
     }
 }
 
@@ -123,6 +131,27 @@ fn tell_bad_line(number: u32, into: &mut Vec<u8>) -> Result<(), Operated>
 {
     write_words(number, b"bad line", into)?;
     Ok(())
+}
+
+// What is said where serving is to end.
+fn tell_stop(number: u32, into: &mut Vec<u8>) -> Result<(), Operated>
+    ensures told { OnOk result (into.new.items ≡ into.old.items ++ stop_text number) }
+    ensures lack { IfErr result (λ end. end ≡ NoMemory) }
+{
+    write_words(number, b"ok", into)?;
+    Ok(())
+}
+
+// Serving is to end.
+fn do_stop<D: Chart>(desk: &mut D, number: u32, into: &mut Vec<u8>) -> Result<(), Operated>
+    requires fresh { (D.charted desk.old).spent ≡ None }
+    ensures goes { (shown : List Shown) → Goes (Says (stop_text number)) result (past (D.charted desk.old) shown) (past (D.charted desk.new) shown) (D.charted desk.new).spent into.old.items into.new.items }
+    ensures stays { Stays D.is_at desk.old desk.new }
+{
+    match desk.halt() {
+        Ok(()) => tell_stop(number, into),
+        Err(spent) => Err(Operated::Spent(spent)),
+    }
 }
 
 // Does what a line says.
@@ -145,8 +174,8 @@ fn do_asked<T: Store, D: Chart, R: Wait + Drop>(
     ensures later { T.faults store.old ≤ T.faults store.new }
     ensures files { T.files store.new ≡ T.files store.old }
 {
-    match file_of(asked) {
-        Some((is_change, at, name)) => {
+    match errand_of(asked) {
+        Errand::File(is_change, at, name) => {
             let name = name.as_str();
             let line = FileLine {
                 number,
@@ -156,7 +185,8 @@ fn do_asked<T: Store, D: Chart, R: Wait + Drop>(
             };
             do_file(alloc, desk, store, network, publisher, line, into)
         }
-        None => tell_bad_line(number, into),
+        Errand::Stop => do_stop(desk, number, into),
+        Errand::Nothing => tell_bad_line(number, into),
     }
 }
 

@@ -11,6 +11,7 @@ mod chart;
 mod circle;
 mod claims;
 mod desk;
+mod ending;
 mod finding;
 mod guide;
 mod line;
