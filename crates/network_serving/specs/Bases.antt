@@ -55,8 +55,8 @@ abbrev pub bases_of : NetworkParts → Server → List Base
 bases_of n x = map (λ (d : Duty). Desk x.desk) (first_duties n) ++ Operator x.desk n x.shown x.list ∷ watch_bases x.shown x.list n.watch
 
 -- that of what writes a record, where one is asked for
-abbrev pub record_bases : Bool → Server → List Base
-record_bases recorded x = map (λ (d : Duty). Desk x.desk) (record_duties recorded)
+abbrev pub record_bases : Bool → Stand → List Base
+record_bases recorded desk = map (λ (d : Duty). Desk desk) (record_duties recorded)
 
 -- A lock was opened round a network of these settings, into which the topologies that they name had been loaded, and no turn had been
 -- made. What was shown are these topologies.

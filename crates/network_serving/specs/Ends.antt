@@ -59,7 +59,7 @@ pub record IsServed (w : World) (name : List ℕ) (turns : ℕ) : Type 0 where
   pub server : Server
   pub ready : IsReady w.files network server
   pub runs : (s : Stand) → IsAtLock server.desk s → AreGiven s.seen → IsRun network ready.loaded.entries s
-  pub behind : w.bases.1 ≡ w.bases.0 ++ (bases_of network server ++ record_bases w.recorded server)
+  pub behind : w.bases.1 ≡ w.bases.0 ++ (bases_of network server ++ record_bases w.recorded server.desk)
   pub read : RoseBy turns w.readings
   pub told : Stand
   pub by : w.told ≡ Some told

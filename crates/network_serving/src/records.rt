@@ -1,6 +1,6 @@
 //! The task that writes a record is planned and started.
-ghost use Rattle.std.specs.Prelude.{◌≡◌, ◌++◌, ◌+◌, ◌<◌, ◌≤◌, IfErr, IfOk, IfSome, OnOk};
-ghost use Rattle.network_serving.specs.Bases.{Desk};
+ghost use Rattle.std.specs.Prelude.{◌≡◌, ◌++◌, ◌+◌, ◌<◌, ◌≤◌, IfErr, IfOk, OnOk};
+ghost use Rattle.network_serving.specs.Bases.{record_bases};
 ghost use Rattle.network_serving.specs.Duties.{record_duties};
 ghost use Rattle.network_serving.specs.Records.{HasFault, IsNoRecord, desks_in, faults_in, is_asked};
 ghost use Rattle.network_serving.specs.Spawners.{bases, faults_of, started};
@@ -40,7 +40,8 @@ where
     requires seat { 1 < shares_at desk.old }
     ensures stand { stand_of desk.new ≡ stand_of desk.old }
     ensures asked { IfOk result (λ recorder. is_asked recorder ≡ is_asked recording.old) }
-    ensures desk { IfOk result (λ recorder. IfSome recorder (λ x. stand_of x.seat.desk ≡ split_from (stand_of desk.old))) }
+    ensures desks { IfOk result (λ recorder. desks_in recorder ≡ record_bases (is_asked recording.old) (split_from (stand_of desk.old))) }
+    ensures seat { OnOk result (shares_at desk.old ≤ shares_at desk.new + 1) }
     ensures err { IfErr result (IsNoRecord (HasFault G.File.faults (faults_in G.faults recording.old) (faults_in G.faults recording.new))) }
 {
     let script = match recording {

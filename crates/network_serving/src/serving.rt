@@ -66,7 +66,7 @@ where
     requires seats { shares_at prepared.desk ≡ desks_of prepared.network }
     requires unused { AreUnused (list_of prepared.publisher) prepared.watchers }
     ensures ok { OnOk result (started spawner.new ≡ started spawner.old ++ (duties_of prepared.network ++ record_duties (is_asked recording.old))) }
-    ensures behind { OnOk result (bases spawner.new ≡ bases spawner.old ++ (bases_of prepared.network (server (stand_of prepared.desk) (published prepared.publisher) (list_of prepared.publisher)) ++ record_bases (is_asked recording.old) (server (stand_of prepared.desk) (published prepared.publisher) (list_of prepared.publisher)))) }
+    ensures behind { OnOk result (bases spawner.new ≡ bases spawner.old ++ (bases_of prepared.network (server (stand_of prepared.desk) (published prepared.publisher) (list_of prepared.publisher)) ++ record_bases (is_asked recording.old) (stand_of prepared.desk))) }
     ensures stand { IfOk result (λ desk. stand_of desk ≡ stand_of prepared.desk) }
     ensures err { IfErr result (λ why. IsNoRecord (HasFault G.File.faults (faults_in G.faults recording.old) (faults_in G.faults recording.new)) why ⊎ IsStartEnd (ports_of prepared.network) (called (Q.calls ports.old, Q.calls ports.new) (Q.faults ports.old, Q.faults ports.new) (Q.failed_at ports.new)) (faults_of spawner.old, faults_of spawner.new) why) }
 {

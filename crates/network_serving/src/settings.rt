@@ -82,8 +82,8 @@ pub(crate) fn load_settings<T: Store>(
     store: &mut T,
     name: &str,
 ) -> Result<Settings, Served>
-    ensures ok { IfOk result (λ s. HasNetwork (T.files store.old) name.now s.network) }
-    ensures same { IfOk result (λ s. (s.own ≡ s.network) × (s.recorded ≡ s.network)) }
+    ensures ok { IfOk result (λ s. HasNetwork (T.files store.old) name.now s.own) }
+    ensures same { IfOk result (λ s. (s.network ≡ s.own) × (s.recorded ≡ s.own)) }
     ensures octets { IfOk result (λ s. HasFile (T.files store.old) name.now s.octets) }
     ensures err { IfErr result (IsFileEnd (T.files store.old) name.now settings_max IsSettingsFault (T.faults store.old, T.faults store.new) (T.failed_at store.new)) }
     ensures files { T.files store.new ≡ T.files store.old }
