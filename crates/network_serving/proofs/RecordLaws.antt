@@ -1,17 +1,26 @@
 -- What is handed out at a seat, and what a record is told of it.
-use Rattle.std.proofs.Common.{◌≡◌, ◌∙◌, ℕ, List, [], ◌∷◌, ◌++◌, Option, Some, None, Ok, Err, ap, append-nil, refl, sym}
+use Rattle.std.proofs.Common.{◌≡◌, ◌∙◌, ℕ, List, [], ◌∷◌, ◌++◌, Option, Some, None, Ok, Err, ap, append-nil, append_assoc, refl, subst, sym}
 use Rattle.std.specs.declared.result.Result.{Result}
 use Rattle.std.specs.List.{filter_map}
 use Rattle.std.proofs.lemmas.List.Elements.{filter_map-append}
+use Rattle.te_links.specs.Rows.{Rows}
+use Rattle.plant_text.specs.declared.settings.ElementRow.{ElementRow}
+use Rattle.event_tape.specs.Tapes.{Taped, event_of, kept_on}
 use Rattle.event_tape.specs.declared.tape.Handed.{Handed as HandedOut}
 use Rattle.event_tape.specs.declared.told.Told.{Told}
 use Rattle.kept_plant.specs.declared.acts.KeptAct.{KeptAct}
 use Rattle.kept_plant.specs.declared.acts.KeptAct.TheVariants.{Hand, Stop}
 use Rattle.kept_plant.specs.declared.acts.KeptAnswer.{KeptAnswer}
 use Rattle.kept_plant.specs.declared.acts.KeptAnswer.TheVariants.{Handed, Stopped}
+use Rattle.plant_network.specs.Current.{IsCurrent}
+use Rattle.plant_network.specs.Whole.{Whole}
+use Rattle.plant_network.specs.pce_element.Rows.{pin_with}
+use Rattle.plant_network.specs.plant_model.declared.event.Event.TheVariants.{Load}
 use Rattle.plant_record.specs.Hands.{Goes}
 use Rattle.turn_desk.specs.Seats.{IsHand, IsStop, Seated}
-use Rattle.network_serving.specs.Records.{hand_of, hands_at}
+use Rattle.network_serving.specs.Records.{AreFirst, IsFirst, IsNoRecord, IsPushedFirst, hand_of, hands_at}
+use Rattle.network_serving.specs.declared.served.Served.{Served}
+use Rattle.network_serving.specs.declared.served.Served.TheVariants as served
 
 -- one entry more at a seat
 entry_more : (old new : List (KeptAct × KeptAnswer)) (e : KeptAct × KeptAnswer) → new ≡ old ++ e ∷ [] → filter_map hand_of new ≡ filter_map hand_of old ++ filter_map hand_of (e ∷ [])
@@ -26,3 +35,39 @@ hand_goes old new empty (Err t) k = (ap (filter_map hand_of) k.own, k.spent)
 pub stop_stays : (old new : Seated) (r : Result (Unit {0}) ℕ) → IsStop r old new → (hands_at new).hands ≡ (hands_at old).hands
 stop_stays old new (Ok done) e = entry_more old.own new.own (Stop, Stopped) e.own ∙ append-nil (filter_map hand_of old.own)
 stop_stays old new (Err t) k = ap (filter_map hand_of) k.own
+
+-- ---- no record
+
+pub want_record : (Reason : Type 0) (s : Served) → s ≡ served.NoMemory → IsNoRecord Reason s
+want_record Reason s is = subst (IsNoRecord Reason) (sym is) tt
+
+-- there is none for a reason that there is
+pub record_lacks : (Reason : Type 0) (s : Served) → Reason → IsNoRecord (Unit {0}) s → IsNoRecord Reason s
+record_lacks Reason (served.NoRecord name) why is = why
+record_lacks Reason served.NoMemory why is = tt
+record_lacks Reason served.Turns why is = absurd is
+record_lacks Reason served.Stopped why is = absurd is
+record_lacks Reason served.ReadFault why is = absurd is
+record_lacks Reason (served.TooLarge file) why is = absurd is
+record_lacks Reason (served.BadNetwork file line fault) why is = absurd is
+record_lacks Reason (served.NoPort port) why is = absurd is
+record_lacks Reason served.NoThread why is = absurd is
+
+-- ---- the tape at the beginning
+
+-- a row that names no topology
+pub no_first : (w : Whole) (row : ElementRow) (tape : Taped) → row.topology ≡ None → IsPushedFirst w row tape tape
+no_first w row tape none = ([], subst (λ (o : Option (List ℕ)). IsFirst w row.own o []) (sym none) refl, ap (λ (items : List Told). record tape { items = items }) (sym (append-nil tape.items)))
+
+-- a row whose topology is told
+pub one_first : (w : Whole) (row : ElementRow) (name : List ℕ) (x : Told) (number : ℕ) (g : Rows) (tape new : Taped) → row.topology ≡ Some name → IsCurrent w row.own (Some (pin_with number g)) → event_of x ≡ Load row.own g →
+    new ≡ kept_on tape x → IsPushedFirst w row tape new
+one_first w row name x number g tape new some current is pushed = (x ∷ [], subst (λ (o : Option (List ℕ)). IsFirst w row.own o (x ∷ [])) (sym some) (x, refl, (number, g, current, is)), pushed)
+
+-- rows one after the other
+pub first_none : (w : Whole) → AreFirst w [] []
+first_none w = refl
+
+pub first_more : (w : Whole) (rows : List ElementRow) (row : ElementRow) (items first : List Told) → AreFirst w rows items → IsFirst w row.own row.topology first → AreFirst w (rows ++ row ∷ []) (items ++ first)
+first_more w [] row items first are is = (first, [], ap (λ (xs : List Told). xs ++ first) are ∙ sym (append-nil first), is, refl)
+first_more w (r ∷ rows) row items first are is = (are.0, are.1 ++ first, ap (λ (xs : List Told). xs ++ first) are.2 ∙ append_assoc are.0 are.1 first, are.3, first_more w rows row are.1 first are.4 is)
