@@ -72,7 +72,11 @@ fn push_first(plant: &Plant, tape: &mut Tape, row: &ElementRow) -> Result<(), No
         return Err(NoMemory);
     };
     tape.push(Told::Load(row.own, topology));
-    if tape.is_open() { Ok(()) } else { Err(NoMemory) }
+    if tape.is_open() {
+        Ok(())
+    } else {
+        Err(NoMemory)
+    }
 }
 
 // The tape with which a lock is opened round a network that was loaded.
@@ -87,9 +91,11 @@ fn tape_of(
     if !is_recorded {
         return Ok(Tape::off(alloc));
     }
+    let parts = network.parts();
+    let rows = parts.elements.as_slice();
     let mut tape = Tape::new(alloc);
-    for row in network.parts().elements.as_slice() {
-        push_first(plant, &mut tape, row)?;
+    for i in 0..rows.len() {
+        push_first(plant, &mut tape, &rows[i])?;
     }
     Ok(tape)
 }

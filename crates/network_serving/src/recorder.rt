@@ -75,7 +75,9 @@ impl<R: Wait + Clock + Drop> TapeDesk for TapeSeat<R> {
         match self.desk.hand(room) {
             Ok(handed) => {
                 self.before = handed.before;
-                self.now = handed.before.saturating_add(handed.items.as_slice().len() as u64);
+                self.now = handed
+                    .before
+                    .saturating_add(handed.items.as_slice().len() as u64);
                 Ok(handed)
             }
             Err(number) => Err(number),
@@ -116,9 +118,12 @@ fn why_ended(end: Recorded) -> Option<&'static [u8]> {
     }
 }
 
-impl<G: Folder + Drop, M: Calendar + Drop, E: Sink + Drop, R: Wait + Clock + Copy + Drop>
-    Recorder<G, M, E, R>
-{
+impl<G: Folder + Drop, M: Calendar + Drop, E: Sink + Drop, R: Wait + Clock + Copy + Drop> Recorder<
+    G,
+    M,
+    E,
+    R,
+> {
     ghost use Rattle.network_serving.specs.Records.{Writes};
 
     /// What stands behind it.
@@ -144,7 +149,14 @@ impl<G: Folder + Drop, M: Calendar + Drop, E: Sink + Drop, R: Wait + Clock + Cop
         let peers = network.parts().peers.as_slice();
         let mut nap = Nap::new(rt);
         let end = record(
-            alloc, &mut seat, &mut folder, &mut calendar, &mut nap, peers, script, turns,
+            alloc,
+            &mut seat,
+            &mut folder,
+            &mut calendar,
+            &mut nap,
+            peers,
+            script,
+            turns,
         );
         seat.leave(end);
         if let Some(why) = why_ended(end) {

@@ -71,7 +71,13 @@ pub(crate) fn begin_script<G: Blames + Drop, M: Calendar + Drop, E: Sink + Drop>
     ensures err { IfErr result (IsNoRecord (HasFault G.File.faults (G.faults recording.old.folder) (G.faults recording.new.folder))) }
 {
     let version = recording.version.as_str();
-    match begin(alloc, &mut recording.folder, &mut recording.calendar, settings, version) {
+    match begin(
+        alloc,
+        &mut recording.folder,
+        &mut recording.calendar,
+        settings,
+        version,
+    ) {
         Ok(script) => Ok(script),
         Err(Fault::NoMemory) => Err(Served::NoMemory),
         Err(Fault::Folder) => {

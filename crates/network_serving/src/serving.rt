@@ -82,7 +82,14 @@ where
     let tasks = plan_tasks::<Q, F, I, O, R>(rt, alloc, &mut desk, ports, &network)?;
     let told = publisher.tell();
     let watches = plan_watches::<Q, F, I, O, R>(rt, alloc, ports, parts.watch, watchers, &told)?;
-    let recorder = plan_record(rt, alloc, &mut desk, recording, recorded, settings.as_slice())?;
+    let recorder = plan_record(
+        rt,
+        alloc,
+        &mut desk,
+        recording,
+        recorded,
+        settings.as_slice(),
+    )?;
     start_all(alloc, spawner, log, at, parts.peers.as_slice(), tasks)?;
     let beside = desk_beside(rt, &mut desk)?;
     let operator: Task<Q::Port, F, I, O, R> = Task::Operate {

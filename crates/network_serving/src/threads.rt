@@ -173,9 +173,12 @@ where
 
 /// What writes a record, as it is handed to a thread. The thread promises to give back what it left in all its turns.
 #[derive(Drop)]
-pub(crate) struct AsWritten<G: Folder + Drop, M: Calendar + Drop, E: Sink + Drop, R: Wait + Clock + Drop>(
-    Snapshot<Recorder<G, M, E, R>>,
-);
+pub(crate) struct AsWritten<
+    G: Folder + Drop,
+    M: Calendar + Drop,
+    E: Sink + Drop,
+    R: Wait + Clock + Drop,
+>(Snapshot<Recorder<G, M, E, R>>);
 
 impl<G, M, E, R> Promise<Written<G, R>> for AsWritten<G, M, E, R>
 where
@@ -216,11 +219,9 @@ where
     ensures { IfSome result (λ handle. handle.promise.0.value ≡ recorder) }
 {
     let promise = AsWritten(Snapshot::of(&recorder));
-    match thread::spawn_with(
-        rt,
-        promise,
-        move || -> Written<G, R> { write_all_of(alloc, recorder) },
-    ) {
+    match thread::spawn_with(rt, promise, move || -> Written<G, R> {
+        write_all_of(alloc, recorder)
+    }) {
         Ok(handle) => Some(handle),
         Err(_) => None,
     }

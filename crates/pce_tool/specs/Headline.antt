@@ -35,7 +35,7 @@ use Rattle.pce_tool.specs.declared.route.Route.{Route}
 use Rattle.network_files.specs.Settings.{HasNetwork}
 use Rattle.pce_tool.specs.Networks.{question_of}
 use Rattle.pce_tool.specs.Tasks.{Task, Blind, Bulk, Path, Play, Replay}
-use Rattle.plant_client.specs.plant_play.Replays.{Replaying}
+use Rattle.plant_client.specs.plant_play.Replays.{Replaying, octets_of}
 use Rattle.plant_client.specs.plant_play.declared.replay.Span.{Span}
 
 -- A run is right; and without a parent no id wraps around in it, so what is said of it then has no premise.
@@ -56,12 +56,11 @@ PlaysAreWorth files net =
     → HasNetwork files net n → length script ≤ script_most → told_lines script ≡ done ++ others → (p : Playing files n done turns told end)
     → IsWorth n turns end × (ShowsRows p.cues → DisclosedRun wire n (entries_of turns []) (shown_trace turns []) end.state)
 
--- The same of a script that is played as it comes, as far as it is no longer than one that is read whole.
+-- The same of a script that is played as it comes, of as many lines as one may have that is read whole.
 abbrev pub ReplaysAreWorth : Option Files → List ℕ → Option Span → Type 0
 ReplaysAreWorth files net span =
-    (n : NetworkParts) (script : List ℕ) (done others : List NumberedLine) (turns : List Turn) (told : List ℕ) (end : PlayedNetwork)
-    → HasNetwork files net n → length script ≤ script_most → told_lines script ≡ done ++ others → (p : Replaying files span n done turns told end)
-    → IsWorth n turns end × (ShowsRows p.cues → DisclosedRun wire n (entries_of turns []) (shown_trace turns []) end.state)
+    (n : NetworkParts) (lines : List (List ℕ)) (turns : List Turn) (told : List ℕ) (end : PlayedNetwork)
+    → HasNetwork files net n → length (octets_of lines) ≤ script_most → Replaying files span n lines turns told end → IsWorth n turns end
 
 -- A client asks once in a run, and receives this. It is told what the last message that was sent to it answers; each reply to a
 -- request for a path among these messages is right; and each request that an element had from it is its question. Where no id wraps around

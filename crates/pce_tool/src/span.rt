@@ -23,5 +23,9 @@ pub(crate) fn span_of(from: &str, to: &str) -> Option<Span>
 {
     let from = line_of(from)?;
     let to = line_of(to)?;
-    if from <= to { Some(Span { from, to }) } else { None }
+    if from <= to {
+        Some(Span { from, to })
+    } else {
+        None
+    }
 }

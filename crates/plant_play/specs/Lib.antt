@@ -11,6 +11,8 @@ pub mod Replays
 pub mod LogFields
 pub mod Making
 pub mod PlayerFields
+pub mod Reels
+pub mod ReelFields
 -- re-exported from below
 pub use Rattle.network_files.specs as network_files
 pub use Rattle.plant_network.specs.plant_model

@@ -9,6 +9,7 @@ mod going;
 mod lines;
 mod log;
 mod player;
+mod reel;
 mod replay;
 mod script;
 mod showing;

@@ -32,7 +32,8 @@ impl Ending {
 
     // Whether it was asked for, and no record is still being written.
     fn is_due(&self) -> bool {
-        self.asked.get().is_some() && (self.recording.get().is_none() || self.recorded.get().is_some())
+        self.asked.get().is_some()
+            && (self.recording.get().is_none() || self.recorded.get().is_some())
     }
 }
 

@@ -1,8 +1,8 @@
 //! Networks that are served in memory: which tasks are started, in which order, and why it ends before.
 use dom_base::{As, Bytes, List, Text, Tick, write_number};
 use dom_edge::{
-    MemoryCalendar, MemoryClock, MemoryFolder, MemoryListener, MemoryPorts, MemorySink, MemorySource,
-    MemoryStore,
+    MemoryCalendar, MemoryClock, MemoryFolder, MemoryListener, MemoryPorts, MemorySink,
+    MemorySource, MemoryStore,
 };
 use network_serving::{Duty, MemorySpawner, Recording, Served, Spawner, serve};
 use std::alloc::Global;
@@ -174,7 +174,12 @@ type Asked = Option<Recording<MemoryFolder, MemoryCalendar, MemorySink>>;
 
 fn recording(alloc: Global, call: u64) -> Result<Asked, Fail> {
     Ok(Some(Recording {
-        folder: MemoryFolder::new(alloc, List::new(alloc), List::new(alloc), only(alloc, call)?),
+        folder: MemoryFolder::new(
+            alloc,
+            List::new(alloc),
+            List::new(alloc),
+            only(alloc, call)?,
+        ),
         place: Text::copy_of(alloc, "/runs")?,
         calendar: MemoryCalendar::new(List::new(alloc)),
         version: Text::copy_of(alloc, "pce")?,
