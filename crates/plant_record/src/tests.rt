@@ -105,14 +105,14 @@ fn run(alloc: Global, before: u64, fails: List<u64>, plans: List<List<u64>>) -> 
     let mut desk = desk(alloc, before)?;
     let mut told = Vec::new(alloc);
     let end = match begin(alloc, &mut folder, &mut calendar, b"settings\n", "pce 0.1.0") {
-        Ok(script) => record(
+        Ok(mut script) => record(
             alloc,
             &mut desk,
             &mut folder,
             &mut calendar,
             &mut NoPause,
             network.parts().peers.as_slice(),
-            script,
+            &mut script,
             9,
         ),
         Err(fault) => Recorded::Fault(fault),
