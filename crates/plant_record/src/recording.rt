@@ -116,8 +116,6 @@ pub fn record<D: TapeDesk, F: Folder, C: Calendar, P: Pause>(
 ) -> Recorded
     ensures { Records F.File.faults (F.faults folder.old) (F.faults folder.new) turns script.old.events result (D.handed desk.old) (D.handed desk.new) (λ more. (t : Title) (before : List Event) → Stands F.File.written peers.now t before script.old (F.contents folder.old) → Leaves peers.now t (before ++ more) result (F.contents folder.new)) }
 {
-    let end = run(
-        alloc, desk, folder, calendar, pause, peers, script, turns,
-    );
+    let end = run(alloc, desk, folder, calendar, pause, peers, script, turns);
     finish(alloc, folder, script, end)
 }
