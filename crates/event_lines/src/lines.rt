@@ -42,7 +42,12 @@ fn push_load(alloc: Global, at: As, loads: u64, into: &mut Vec<u8>) -> Result<()
 }
 
 // A word and a peer.
-fn push_of_peer(word: &[u8], peers: &[PeerRow], peer: u32, into: &mut Vec<u8>) -> Result<(), NoMemory>
+fn push_of_peer(
+    word: &[u8],
+    peers: &[PeerRow],
+    peer: u32,
+    into: &mut Vec<u8>,
+) -> Result<(), NoMemory>
     ensures { OnOk result (into.new.items ≡ into.old.items ++ word.now ++ 32 ∷ peer_name peers.now peer ++ 10 ∷ []) }
 {
     into.extend_from_slice(word)?;
@@ -52,7 +57,13 @@ fn push_of_peer(word: &[u8], peers: &[PeerRow], peer: u32, into: &mut Vec<u8>) -
 }
 
 // A word, a peer and a holder.
-fn push_of_holder(word: &[u8], peers: &[PeerRow], peer: u32, holder: u32, into: &mut Vec<u8>) -> Result<(), NoMemory>
+fn push_of_holder(
+    word: &[u8],
+    peers: &[PeerRow],
+    peer: u32,
+    holder: u32,
+    into: &mut Vec<u8>,
+) -> Result<(), NoMemory>
     ensures { OnOk result (into.new.items ≡ into.old.items ++ word.now ++ 32 ∷ peer_name peers.now peer ++ 32 ∷ decimal holder ++ 10 ∷ []) }
 {
     into.extend_from_slice(word)?;
@@ -82,7 +93,13 @@ fn push_tick(tick: Tick, into: &mut Vec<u8>) -> Result<(), NoMemory>
     Ok(())
 }
 
-fn push_receive(alloc: Global, peers: &[PeerRow], peer: u32, octets: &[u8], into: &mut Vec<u8>) -> Result<(), NoMemory>
+fn push_receive(
+    alloc: Global,
+    peers: &[PeerRow],
+    peer: u32,
+    octets: &[u8],
+    into: &mut Vec<u8>,
+) -> Result<(), NoMemory>
     ensures { OnOk result (into.new.items ≡ into.old.items ++ codes "receive" ++ 32 ∷ peer_name peers.now peer ++ 32 ∷ hex_text octets.now ++ 10 ∷ []) }
 {
     let digits = write_hex(alloc, octets)?;

@@ -6,7 +6,7 @@ ghost use Rattle.plant_network.specs.Turns.{Admits, Allowed, left_by, solve_of};
 ghost use Rattle.kept_plant.specs.Tellings.{Folds, event_in, is_idle, tells, told_event};
 ghost use Rattle.kept_plant.specs.Folding.{IsBegun, IsBegunAt, Keeps, KeepsIf};
 
-use crate::kept::KeptPlant;
+use crate::telling::tell_load;
 use dom_base::As;
 use event_tape::{Tape, TapeEnd, Told};
 use plant_lock::Turned;
@@ -87,16 +87,6 @@ fn tells(acted: &Acted) -> bool
     }
 }
 
-// Keeps the topology that an element has just loaded.
-fn keep_load(plant: &Plant, tape: &mut Tape, at: As)
-    ensures { Keeps (Begun.Loads at) (whole plant.now) tape.old tape.new }
-{
-    match plant.topology(at) {
-        Ok(Some((_number, topology))) => tape.push(Told::Load(at, topology)),
-        _ => tape.end(TapeEnd::NoMemory),
-    }
-}
-
 // Keeps what was begun, behind its act, where the answer to it tells.
 fn keep(plant: &Plant, tape: &mut Tape, begun: Begun, acted: &Acted)
     ensures { KeepsIf (tells acted.now) begun (whole plant.now) tape.old tape.new }
@@ -107,7 +97,7 @@ fn keep(plant: &Plant, tape: &mut Tape, begun: Begun, acted: &Acted)
     match begun {
         Begun::Nothing => {}
         Begun::Item(item) => tape.push(item),
-        Begun::Loads(at) => keep_load(plant, tape, at),
+        Begun::Loads(at) => tell_load(plant, tape, at),
         Begun::NoMemory => tape.end(TapeEnd::NoMemory),
     }
 }

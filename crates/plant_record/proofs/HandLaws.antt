@@ -11,7 +11,8 @@ use Rattle.event_tape.specs.declared.tape.TapeEnd.{TapeEnd}
 use Rattle.plant_record.specs.Parts.{Title}
 use Rattle.plant_record.specs.Standing.{After, Breaks, ScriptState, Stands}
 use Rattle.plant_record.specs.Faults.{HasReason, IsJudged}
-use Rattle.plant_record.specs.Hands.{AreWhole, Goes, Hands, told_of}
+use Rattle.event_tape.specs.Hands.{AreWhole, told_of}
+use Rattle.plant_record.specs.Hands.{Goes, Hands}
 use Rattle.plant_record.specs.Recording.{Had, HasCause, IsEndBy, IsStray, Leaves, Reaches, Records, TellsEnd}
 use Rattle.plant_record.specs.Steps.{Counts, GoesOn, IsHandTaken, end_of}
 use Rattle.plant_record.specs.declared.fault.Fault.{Fault as WhyFault}

@@ -10,7 +10,8 @@ use Rattle.plant_record.specs.Parts.{Title, topologies, part_text, part_name, ta
 use Rattle.plant_record.specs.Books.{BeginsWith, Deed, File, IsBook, files, kept, next_part, part_count, told_in}
 use Rattle.plant_record.specs.Standing.{Breaks, IsCut, ScriptState, Stands}
 use Rattle.plant_record.specs.Faults.{HasReason}
-use Rattle.plant_record.specs.Hands.{Hands, AreWhole, told_of}
+use Rattle.event_tape.specs.Hands.{AreWhole, told_of}
+use Rattle.plant_record.specs.Hands.{Hands}
 use Rattle.plant_record.specs.declared.fault.Fault.{Fault as WhyFault}
 use Rattle.plant_record.specs.declared.recorded.Recorded.{Recorded}
 use Rattle.plant_record.specs.declared.recorded.Recorded.TheVariants.{Ended, Turns, Spent, Lost, Fault}

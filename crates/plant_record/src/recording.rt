@@ -1,5 +1,5 @@
 //! What a desk hands out is written, hand by hand.
-ghost use Rattle.std.specs.Prelude.{◌≡◌, ◌≢◌, ◌++◌, List, Err};
+ghost use Rattle.std.specs.Prelude.{◌≡◌, ◌≢◌, ◌++◌, [], List, Err};
 ghost use Rattle.event_tape.specs.declared.told.Told.{Told as Event};
 ghost use Rattle.plant_record.specs.Parts.{Title};
 ghost use Rattle.plant_record.specs.Recording.{Leaves, Records};
@@ -46,6 +46,15 @@ fn take_hand<F: Folder, C: Calendar>(
     }
 }
 
+// The same list without its items. They are dropped here, since the tape drops what is left under the lock.
+fn emptied(items: Rows<Told>) -> Rows<Told>
+    ensures { result ≡ [] }
+{
+    let mut items = items.into_vec();
+    items.clear();
+    Rows::from_vec(items)
+}
+
 // One turn: a hand is asked for and written.
 fn turn<D: TapeDesk, F: Folder, C: Calendar>(
     alloc: Global,
@@ -82,7 +91,7 @@ fn run<D: TapeDesk, F: Folder, C: Calendar, P: Pause>(
     let mut room = Rows::new(alloc);
     for _turn in 0..turns {
         match turn(alloc, desk, folder, calendar, peers, script, room) {
-            Ok(items) => room = items,
+            Ok(items) => room = emptied(items),
             Err(end) => return end,
         }
         pause.pause();
@@ -102,14 +111,11 @@ pub fn record<D: TapeDesk, F: Folder, C: Calendar, P: Pause>(
     calendar: &mut C,
     pause: &mut P,
     peers: &[PeerRow],
-    script: Script<F::File>,
+    script: &mut Script<F::File>,
     turns: u64,
 ) -> Recorded
-    ensures { Records F.File.faults (F.faults folder.old) (F.faults folder.new) turns script.events result (D.handed desk.old) (D.handed desk.new) (λ more. (t : Title) (before : List Event) → Stands F.File.written peers.now t before script (F.contents folder.old) → Leaves peers.now t (before ++ more) result (F.contents folder.new)) }
+    ensures { Records F.File.faults (F.faults folder.old) (F.faults folder.new) turns script.old.events result (D.handed desk.old) (D.handed desk.new) (λ more. (t : Title) (before : List Event) → Stands F.File.written peers.now t before script.old (F.contents folder.old) → Leaves peers.now t (before ++ more) result (F.contents folder.new)) }
 {
-    let mut script = script;
-    let end = run(
-        alloc, desk, folder, calendar, pause, peers, &mut script, turns,
-    );
-    finish(alloc, folder, &mut script, end)
+    let end = run(alloc, desk, folder, calendar, pause, peers, script, turns);
+    finish(alloc, folder, script, end)
 }

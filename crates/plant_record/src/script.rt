@@ -11,6 +11,7 @@ use std::marker::Model;
 
 // How many octets a part has at most, if each line is of the length that a script's lines may have.
 const PART_MAX: u64 = 67_108_864;
+
 const LINE_MAX: u64 = 262_144;
 
 // How many octets wait until they are written.

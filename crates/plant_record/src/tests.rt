@@ -47,9 +47,7 @@ class = \"client\"
 ";
 
 fn octets(alloc: Global) -> Result<Bytes, Fail> {
-    Ok(List::from_vec(
-        vec![in alloc; 32, 1, 0, 12, 1, 16, 0, 8, 32, 30, 120, 0, 32, 2, 0, 4]?,
-    ))
+    Ok(List::from_vec(vec![in alloc; 32, 1, 0, 12, 1, 16, 0, 8, 32, 30, 120, 0, 32, 2, 0, 4]?))
 }
 
 fn first(alloc: Global) -> Result<List<Told>, Fail> {
@@ -68,15 +66,25 @@ fn first(alloc: Global) -> Result<List<Told>, Fail> {
 }
 
 fn second(alloc: Global) -> Result<List<Told>, Fail> {
-    Ok(List::from_vec(
-        vec![in alloc; Told::Break(As(1), As(2)), Told::Solve(As(1), 1), Told::Shut(0)]?,
-    ))
+    Ok(List::from_vec(vec![in alloc;
+        Told::Break(As(1), As(2)),
+        Told::Solve(As(1), 1),
+        Told::Shut(0),
+    ]?))
 }
 
 fn desk(alloc: Global, before: u64) -> Result<Hands, Fail> {
     let later = vec![in alloc;
-        Handed { items: second(alloc)?, before, ended: Some(TapeEnd::Stopped) },
-        Handed { items: first(alloc)?, before: 0, ended: None },
+        Handed {
+            items: second(alloc)?,
+            before,
+            ended: Some(TapeEnd::Stopped)
+        },
+        Handed {
+            items: first(alloc)?,
+            before: 0,
+            ended: None
+        },
     ]?;
     Ok(Hands {
         later,
@@ -95,7 +103,12 @@ fn calendar(alloc: Global) -> Result<MemoryCalendar, Fail> {
 }
 
 // What a run leaves, with the names of its files, and how it ends: a letter.
-fn run(alloc: Global, before: u64, fails: List<u64>, plans: List<List<u64>>) -> Result<Vec<u8>, Fail> {
+fn run(
+    alloc: Global,
+    before: u64,
+    fails: List<u64>,
+    plans: List<List<u64>>,
+) -> Result<Vec<u8>, Fail> {
     let network = match read_network(alloc, NETWORK) {
         Ok(network) => network,
         Err(_) => return Err(Fail::from("settings")),
@@ -104,15 +117,21 @@ fn run(alloc: Global, before: u64, fails: List<u64>, plans: List<List<u64>>) -> 
     let mut calendar = calendar(alloc)?;
     let mut desk = desk(alloc, before)?;
     let mut told = Vec::new(alloc);
-    let end = match begin(alloc, &mut folder, &mut calendar, b"settings\n", "pce 0.1.0") {
-        Ok(script) => record(
+    let end = match begin(
+        alloc,
+        &mut folder,
+        &mut calendar,
+        b"settings\n",
+        "pce 0.1.0",
+    ) {
+        Ok(mut script) => record(
             alloc,
             &mut desk,
             &mut folder,
             &mut calendar,
             &mut NoPause,
             network.parts().peers.as_slice(),
-            script,
+            &mut script,
             9,
         ),
         Err(fault) => Recorded::Fault(fault),
