@@ -1,20 +1,20 @@
 -- What is handed out at a seat, and what a record is told of it.
-use Rattle.std.proofs.Common.{◌≡◌, ◌∙◌, ℕ, List, [], ◌∷◌, ◌++◌, Option, Some, None, Ok, Err, ap, append-nil, append_assoc, refl, subst, sym}
+use Rattle.std.proofs.Common.{inl, inr, ◌≡◌, ◌∙◌, ℕ, List, [], ◌∷◌, ◌++◌, Option, Some, None, Ok, Err, ap, append-nil, append_assoc, refl, subst, sym}
 use Rattle.std.specs.declared.result.Result.{Result}
 use Rattle.std.specs.List.{filter_map}
 use Rattle.std.proofs.lemmas.List.Elements.{filter_map-append}
-use Rattle.te_links.specs.Rows.{Rows}
 use Rattle.plant_text.specs.declared.settings.ElementRow.{ElementRow}
-use Rattle.event_tape.specs.Tapes.{Taped, event_of, kept_on}
+use Rattle.event_tape.specs.Tapes.{Taped, end_after, ended_by}
+use Rattle.event_tape.specs.declared.tape.TapeEnd.{TapeEnd}
+use Rattle.event_tape.specs.declared.tape.TapeEnd.TheVariants.{Behind, NoMemory}
 use Rattle.event_tape.specs.declared.tape.Handed.{Handed as HandedOut}
 use Rattle.event_tape.specs.declared.told.Told.{Told}
+use Rattle.kept_plant.specs.Tellings.{Folds, IsToldOpen, IsToldTo}
 use Rattle.kept_plant.specs.declared.acts.KeptAct.{KeptAct}
 use Rattle.kept_plant.specs.declared.acts.KeptAct.TheVariants.{Hand, Stop}
 use Rattle.kept_plant.specs.declared.acts.KeptAnswer.{KeptAnswer}
 use Rattle.kept_plant.specs.declared.acts.KeptAnswer.TheVariants.{Handed, Stopped}
-use Rattle.plant_network.specs.Current.{IsCurrent}
 use Rattle.plant_network.specs.Whole.{Whole}
-use Rattle.plant_network.specs.pce_element.Rows.{pin_with}
 use Rattle.plant_network.specs.plant_model.declared.event.Event.TheVariants.{Load}
 use Rattle.plant_record.specs.Hands.{Goes}
 use Rattle.turn_desk.specs.Seats.{IsHand, IsStop, Seated}
@@ -59,10 +59,20 @@ record_lacks Reason served.NoThread why is = absurd is
 pub no_first : (w : Whole) (row : ElementRow) (tape : Taped) → row.topology ≡ None → IsPushedFirst w row tape tape
 no_first w row tape none = ([], subst (λ (o : Option (List ℕ)). IsFirst w row.own o []) (sym none) refl, ap (λ (items : List Told). record tape { items = items }) (sym (append-nil tape.items)))
 
+-- a tape that was ended is not open
+not_open : (why : TapeEnd) (tape new : Taped) → tape.ended ≡ None → new ≡ ended_by why tape → new.ended ≡ None → ⊥
+not_open why tape new was is now =
+    let some : new.ended ≡ Some (end_after tape.ended why) = ap (λ (t : Taped). t.ended) is in
+    let none : Some (end_after tape.ended why) ≡ None = sym some ∙ now in cc
+
 -- a row whose topology is told
-pub one_first : (w : Whole) (row : ElementRow) (name : List ℕ) (x : Told) (number : ℕ) (g : Rows) (tape new : Taped) → row.topology ≡ Some name → IsCurrent w row.own (Some (pin_with number g)) → event_of x ≡ Load row.own g →
-    new ≡ kept_on tape x → IsPushedFirst w row tape new
-one_first w row name x number g tape new some current is pushed = (x ∷ [], subst (λ (o : Option (List ℕ)). IsFirst w row.own o (x ∷ [])) (sym some) (x, refl, (number, g, current, is)), pushed)
+pub one_first : (w : Whole) (row : ElementRow) (name : List ℕ) (tape new : Taped) → tape.ended ≡ None → new.ended ≡ None → row.topology ≡ Some name → Folds (Some (Load row.own (w.state.current row.own).topology)) tape new → IsPushedFirst w row tape new
+one_first w row name tape new was now some folds = go (subst (λ (o : Option TapeEnd). IsToldTo o (Load row.own (w.state.current row.own).topology) tape new) was folds)
+  where
+    go : IsToldOpen (Load row.own (w.state.current row.own).topology) tape new → IsPushedFirst w row tape new
+    go (inl told) = (told.0 ∷ [], subst (λ (o : Option (List ℕ)). IsFirst w row.own o (told.0 ∷ [])) (sym some) (told.0, refl, told.1), told.3)
+    go (inr (inl full)) = absurd (not_open Behind tape new was full.1 now)
+    go (inr (inr lack)) = absurd (not_open NoMemory tape new was lack now)
 
 -- rows one after the other
 pub first_none : (w : Whole) → AreFirst w [] []

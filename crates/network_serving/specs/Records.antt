@@ -12,8 +12,6 @@ use Rattle.kept_plant.specs.declared.acts.KeptAct.{KeptAct}
 use Rattle.kept_plant.specs.declared.acts.KeptAct.TheVariants.{Hand}
 use Rattle.kept_plant.specs.declared.acts.KeptAnswer.{KeptAnswer}
 use Rattle.kept_plant.specs.declared.acts.KeptAnswer.TheVariants.{Handed}
-use Rattle.plant_network.specs.Current.{IsCurrent}
-use Rattle.plant_network.specs.pce_element.Rows.{pin_with}
 use Rattle.plant_network.specs.plant_model.declared.event.Event.TheVariants.{Load}
 use Rattle.plant_network.specs.Topologies.{whole}
 use Rattle.plant_network.specs.Whole.{Whole}
@@ -22,7 +20,6 @@ use Rattle.plant_record.specs.Hands.{Hands}
 use Rattle.plant_record.specs.Parts.{Title}
 use Rattle.plant_record.specs.Recording.{Leaves, Records}
 use Rattle.plant_record.specs.Standing.{Stands}
-use Rattle.te_links.specs.Rows.{Rows}
 use Rattle.plant_text.specs.declared.settings.ElementRow.{ElementRow}
 use Rattle.plant_text.specs.declared.settings.NetworkParts.{NetworkParts}
 use Rattle.turn_desk.specs.Desks.{IsStill, stand_of}
@@ -60,7 +57,7 @@ IsNoRecord Reason s = ⊥
 -- the load of an element's topology, where its row names one
 abbrev pub IsFirst : Whole → As → Option (List ℕ) → List Told → Type 0
 IsFirst w at None items = items ≡ []
-IsFirst w at (Some name) items = (x : Told) × (items ≡ x ∷ []) × ((number : ℕ) × (g : Rows) × IsCurrent w at (Some (pin_with number g)) × (event_of x ≡ Load at g))
+IsFirst w at (Some name) items = (x : Told) × (items ≡ x ∷ []) × (event_of x ≡ Load at (w.state.current at).topology)
 
 -- those of these elements, in their order
 abbrev pub AreFirst : Whole → List ElementRow → List Told → Type 0

@@ -24,7 +24,7 @@ use crate::served::Served;
 use crate::settings::{Settings, load_settings};
 use dom_base::{Bytes, List, NoMemory};
 use dom_edge::Store;
-use event_tape::{Tape, Told};
+use kept_plant::{Tape, tell_load};
 use plant_network::Plant;
 use plant_text::{ElementRow, Network};
 use std::alloc::Global;
@@ -63,15 +63,13 @@ fn desks_of(network: &Network) -> Result<u32, NoMemory>
 
 // The load of the topology that an element's row names, if it names one, behind what the tape holds.
 fn push_first(plant: &Plant, tape: &mut Tape, row: &ElementRow) -> Result<(), NoMemory>
+    requires still { tape.old.ended ≡ None }
     ensures ok { OnOk result (IsPushedFirst (whole plant.now) row.now tape.old tape.new) }
 {
     if row.topology.is_none() {
         return Ok(());
     }
-    let Some((_number, topology)) = plant.topology(row.own)? else {
-        return Err(NoMemory);
-    };
-    tape.push(Told::Load(row.own, topology));
+    tell_load(plant, tape, row.own);
     if tape.is_open() {
         Ok(())
     } else {

@@ -144,7 +144,7 @@ impl<G: Folder + Drop, M: Calendar + Drop, E: Sink + Drop, R: Wait + Clock + Cop
             mut calendar,
             mut log,
             network,
-            script,
+            mut script,
         } = self;
         let peers = network.parts().peers.as_slice();
         let mut nap = Nap::new(rt);
