@@ -155,7 +155,7 @@ impl<G: Folder + Drop, M: Calendar + Drop, E: Sink + Drop, R: Wait + Clock + Cop
             &mut calendar,
             &mut nap,
             peers,
-            script,
+            &mut script,
             turns,
         );
         seat.leave(end);
