@@ -16,7 +16,10 @@ use Rattle.kept_plant.specs.declared.acts.KeptAnswer.{KeptAnswer}
 use Rattle.kept_plant.specs.declared.acts.KeptAnswer.TheVariants.{Handed, Stopped}
 use Rattle.plant_network.specs.Whole.{Whole}
 use Rattle.plant_network.specs.plant_model.declared.event.Event.TheVariants.{Load}
-use Rattle.plant_record.specs.Hands.{Goes}
+use Rattle.plant_record.specs.Hands.{Goes, Hands}
+use Rattle.plant_record.specs.Recording.{HasCause, Records}
+use Rattle.plant_record.specs.declared.recorded.Recorded.{Recorded}
+use Rattle.plant_record.specs.declared.recorded.Recorded.TheVariants as recorded
 use Rattle.turn_desk.specs.Seats.{IsHand, IsStop, Seated}
 use Rattle.network_serving.specs.Records.{AreFirst, IsFirst, IsNoRecord, IsPushedFirst, hand_of, hands_at}
 use Rattle.network_serving.specs.declared.served.Served.{Served}
@@ -35,6 +38,33 @@ hand_goes old new empty (Err t) k = (ap (filter_map hand_of) k.own, k.spent)
 pub stop_stays : (old new : Seated) (r : Result (Unit {0}) ℕ) → IsStop r old new → (hands_at new).hands ≡ (hands_at old).hands
 stop_stays old new (Ok done) e = entry_more old.own new.own (Stop, Stopped) e.own ∙ append-nil (filter_map hand_of old.own)
 stop_stays old new (Err t) k = ap (filter_map hand_of) k.own
+
+-- a desk that is spent stays so
+pub stop_spent : (old new : Seated) (r : Result (Unit {0}) ℕ) → IsStop r old new → (t : ℕ) → old.spent ≡ Some t → new.spent ≡ Some t
+stop_spent old new (Ok done) e t was = absurd (let none : Some t ≡ None = sym was ∙ e.spent.0 in let no : ⊥ = cc in no)
+stop_spent old new (Err number) k t was = k.spent ∙ ap (λ (n : ℕ). Some n) (sym (k.stays t was))
+
+-- ---- what was written, and then the tape was ended
+
+cause_stays : {F : Type 0} (faults : F → ℕ) (before now turns events : ℕ) (hands stray : List HandedOut) (mid new : Option ℕ) (end : Recorded) → ((t : ℕ) → mid ≡ Some t → new ≡ Some t) →
+    HasCause faults before now turns (record { events = events; hands = hands; stray = stray; spent = mid }) end → HasCause faults before now turns (record { events = events; hands = hands; stray = stray; spent = new }) end
+cause_stays faults before now turns events hands stray mid new (recorded.Ended why) still is = is
+cause_stays faults before now turns events hands stray mid new recorded.Turns still is = is
+cause_stays faults before now turns events hands stray mid new (recorded.Spent t) still is = (is.0, still t is.1)
+cause_stays faults before now turns events hands stray mid new recorded.Lost still is = is
+cause_stays faults before now turns events hands stray mid new (recorded.Fault why) still is = is
+
+pub records_still : {F : Type 0} (faults : F → ℕ) (before now turns events : ℕ) (end : Recorded) (old mid new : Hands) (Then : List Told → Type 0) →
+    Records faults before now turns events end old mid Then → new.hands ≡ mid.hands → ((t : ℕ) → mid.spent ≡ Some t → new.spent ≡ Some t) → Records faults before now turns events end old new Then
+records_still faults before now turns events end old mid new Then r same still = record {
+  hands = r.hands;
+  stray = r.stray;
+  handed = same ∙ r.handed;
+  are_whole = r.are_whole;
+  later = r.later;
+  cause = cause_stays faults before now turns events r.hands r.stray mid.spent new.spent end still r.cause;
+  comes = r.comes;
+}
 
 -- ---- no record
 

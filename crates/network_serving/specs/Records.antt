@@ -22,7 +22,7 @@ use Rattle.plant_record.specs.Recording.{Leaves, Records}
 use Rattle.plant_record.specs.Standing.{Stands}
 use Rattle.plant_text.specs.declared.settings.ElementRow.{ElementRow}
 use Rattle.plant_text.specs.declared.settings.NetworkParts.{NetworkParts}
-use Rattle.turn_desk.specs.Desks.{IsStill, stand_of}
+use Rattle.turn_desk.specs.Desks.{stand_of}
 use Rattle.turn_desk.specs.Seats.{Seated, seat_of}
 use Rattle.network_serving.specs.Bases.{Base, Desk}
 use Rattle.network_serving.specs.declared.recorder.Recorder.{Recorder}
@@ -104,6 +104,6 @@ Writes {F} {G} {M} {E} {R} file_faults faults written contents turns x y =
     Records file_faults (faults x.folder) (faults y.folder) turns x.script.events y.end (hands_at (seat_of x.seat.desk)) (hands_at (seat_of y.seat.desk))
     (λ (more : List Told). (t : Title) (before : List Told) → Stands written x.network.peers t before x.script (contents x.folder) → Leaves x.network.peers t (before ++ more) y.end (contents y.folder))
 
--- the same in all turns that a number of 64 bits counts, and its desk is at the lock at which it was
+-- the same in all turns that a number of 64 bits counts
 abbrev pub WasWritten : {F G M E R : Type 0} → (F → ℕ) → (G → ℕ) → (F → Option (List ℕ)) → (G → Option Contents) → Recorder F G M E R → Written G R → Type 0
-WasWritten file_faults faults written contents x y = Writes file_faults faults written contents (2 ^ 64 - 1) x y × IsStill (stand_of x.seat.desk) (stand_of y.seat.desk)
+WasWritten file_faults faults written contents x y = Writes file_faults faults written contents (2 ^ 64 - 1) x y

@@ -1,10 +1,6 @@
 //! What writes the record of a server.
-ghost use Rattle.std.specs.Prelude.{◌≡◌, List};
-ghost use Rattle.event_tape.specs.declared.told.Told.{Told as Event};
+ghost use Rattle.std.specs.Prelude.{◌≡◌, ℕ, Some};
 ghost use Rattle.plant_record.specs.Hands.{Goes};
-ghost use Rattle.plant_record.specs.Parts.{Title};
-ghost use Rattle.plant_record.specs.Recording.{Leaves, Records};
-ghost use Rattle.plant_record.specs.Standing.{Stands};
 ghost use Rattle.turn_desk.specs.Desks.{IsStill, stand_of};
 ghost use Rattle.turn_desk.specs.Seats.{seat_of};
 ghost use Rattle.network_serving.specs.Records.{hands_at};
@@ -54,6 +50,7 @@ impl<R: Wait + Clock + Drop> TapeSeat<R> {
     fn leave(&mut self, end: Recorded)
         ensures stays { IsStill (stand_of self.old.desk) (stand_of self.new.desk) }
         ensures same { (hands_at (seat_of self.new.desk)).hands ≡ (hands_at (seat_of self.old.desk)).hands }
+        ensures spent { (t : ℕ) → (seat_of self.old.desk).spent ≡ Some t → (seat_of self.new.desk).spent ≡ Some t }
     {
         if !matches!(end, Recorded::Ended(_)) {
             let _stopped = self.desk.stop();
@@ -134,8 +131,7 @@ impl<G: Folder + Drop, M: Calendar + Drop, E: Sink + Drop, R: Wait + Clock + Cop
     /// Writes what its desk hands out, in so many turns at most. Where the record ends by anything but the end of its tape, the tape is
     /// stopped; why it ended is said, unless it was stopped.
     pub fn run(self, alloc: Global, turns: u64) -> Written<G, R>
-        ensures writes { Writes G.File.faults G.faults G.File.written G.contents turns self result }
-        ensures stays { IsStill (stand_of self.seat.desk) (stand_of result.seat.desk) }
+        ensures { Writes G.File.faults G.faults G.File.written G.contents turns self result }
     {
         let Recorder {
             rt,
