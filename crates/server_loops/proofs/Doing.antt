@@ -29,9 +29,9 @@ use Rattle.transcript.specs.Lines.{answer_line}
 use Rattle.ted_watch.specs.declared.shown.Shown.{Shown}
 use Rattle.server_loops.specs.Charts.{Asks, Call, Charted, Current, Did, Mapped, current_of}
 use Rattle.server_loops.specs.Operating.{Context, Does, DoesAsked, IsEndOf, IsFirstPart, Loads, Past, Publishes, ShowsMapped, Progress, WithFile, Work, is_done, line_most, past, shown_by}
-use Rattle.server_loops.specs.OperatorSteps.{Acted, Asked, DoesErrand, DoesFile, DoesText, EndsAs, answered, errand_of, Goes, IsBegun, IsFile, IsPartDone, Refuses, text_of}
+use Rattle.server_loops.specs.OperatorSteps.{Acted, Asked, DoesTask, DoesFile, DoesText, EndsAs, answered, task_of, Goes, IsBegun, IsFile, IsPartDone, Refuses, text_of}
 use Rattle.server_loops.specs.Texts.{bad_network_text, fault_text, read_fault_text, too_large_text}
-use Rattle.server_loops.specs.declared.lines.Errand.{Errand}
+use Rattle.server_loops.specs.declared.lines.Task.{Task}
 use Rattle.server_loops.specs.declared.operating.Operated.{Operated}
 use Rattle.server_loops.specs.declared.operating.Operated.TheVariants.{End, ReadFault, Turns, Spent, NoMemory}
 
@@ -237,7 +237,7 @@ module _ (x : Context) (number : ℕ) (name : List ℕ) (a b : Progress) (Then :
 
 -- a line does what the text of its file asks for
 pub text_goes : (x : Context) (number : ℕ) (name : List ℕ) (a b : Progress) (f g : Bool) (at : As) (file bytes : List ℕ) (r : Result (Unit {0}) Operated) (p q : Past) (spent : Option ℕ) (before mid after : List ℕ)
-    → f ≡ g → bytes ≡ file → HasFile x.files name file × (length file ≤ change_file_most) × (mid ≡ before) → Goes (DoesText g x.network number at name a.past.shown bytes) r p q spent mid after → Goes (DoesFile x number (f, at, name) a b) r p q spent before after
+    → f ≡ g → bytes ≡ file → HasFile x.files name file × (length file ≤ change_file_most) × (mid ≡ before) → Goes (DoesText g x.network number at name a.past.shown bytes) r p q spent mid after → Goes (DoesFile x number f at name a b) r p q spent before after
 text_goes x number name a b f g at file bytes r p q spent before mid after same is read goes =
     read_goes x number name a b (DoesText f x.network number at name a.past.shown) file read.0 read.1 r p q spent before after
     (subst (λ (t : Bool). Goes (DoesText t x.network number at name a.past.shown file) r p q spent before after) (sym same)
@@ -377,19 +377,19 @@ long_goes x number a b text (Ok u) p spent before after long fresh told lack = g
 long_goes x number a b text (Err end) p spent before after long fresh told lack = goes_lack (Does x number text a b) end p spent before after lack fresh
 
 -- a line does what it asks for
-asked_errand : (x : Context) (number : ℕ) (e : OperatorLine) (a b : Progress) (w : Work) → DoesErrand x number (errand_of e) a b w → DoesAsked x number (Some (Some e)) a b w
-asked_errand x number (line.Load at name) a b w does = does
-asked_errand x number (line.Change at name) a b w does = does
-asked_errand x number line.Stop a b w does = does
-asked_errand x number (line.Show subject) a b w does = does
-asked_errand x number (line.Shut p) a b w does = does
-asked_errand x number (line.Break u v) a b w does = does
-asked_errand x number (line.Write at name) a b w does = does
+asked_task : (x : Context) (number : ℕ) (e : OperatorLine) (a b : Progress) (w : Work) → DoesTask x number (task_of e) a b w → DoesAsked x number (Some (Some e)) a b w
+asked_task x number (line.Load at name) a b w does = does
+asked_task x number (line.Change at name) a b w does = does
+asked_task x number line.Stop a b w does = does
+asked_task x number (line.Show subject) a b w does = does
+asked_task x number (line.Shut p) a b w does = does
+asked_task x number (line.Break u v) a b w does = does
+asked_task x number (line.Write at name) a b w does = does
 
-pub asked_goes : (x : Context) (number : ℕ) (e : OperatorLine) (f : Errand) (a b : Progress) (r : Result (Unit {0}) Operated) (p q : Past) (spent : Option ℕ) (before after : List ℕ) → errand_of e ≡ f → Goes (DoesErrand x number f a b) r p q spent before after → Goes (DoesAsked x number (Some (Some e)) a b) r p q spent before after
-asked_goes x number e f a b r p q spent before after is goes =
-    goes_as (DoesErrand x number (errand_of e) a b) (DoesAsked x number (Some (Some e)) a b) (asked_errand x number e a b) r p q spent before after
-    (subst (λ (k : Errand). Goes (DoesErrand x number k a b) r p q spent before after) (sym is) goes)
+pub asked_goes_task : (x : Context) (number : ℕ) (e : OperatorLine) (f : Task) (a b : Progress) (r : Result (Unit {0}) Operated) (p q : Past) (spent : Option ℕ) (before after : List ℕ) → task_of e ≡ f → Goes (DoesTask x number f a b) r p q spent before after → Goes (DoesAsked x number (Some (Some e)) a b) r p q spent before after
+asked_goes_task x number e f a b r p q spent before after is goes =
+    goes_as (DoesTask x number (task_of e) a b) (DoesAsked x number (Some (Some e)) a b) (asked_task x number e a b) r p q spent before after
+    (subst (λ (k : Task). Goes (DoesTask x number k a b) r p q spent before after) (sym is) goes)
 
 -- one thing is said, or memory ran out
 pub said_or : (P : Work → Type 0) (text : List ℕ) (r : Result (Unit {0}) Operated) (p : Past) (spent : Option ℕ) (before after : List ℕ) → P (record { calls = []; shown = []; text = text }) → spent ≡ None → OnOk r (after ≡ before ++ text) → IfErr r (λ (e : Operated). e ≡ NoMemory) → Goes P r p p spent before after

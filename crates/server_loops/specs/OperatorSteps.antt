@@ -20,8 +20,8 @@ use Rattle.ted_watch.specs.declared.shown.Shown.{Shown}
 use Rattle.server_loops.specs.Charts.{Call, Charted, Did, Mapped}
 use Rattle.server_loops.specs.Operating.{AreSaid, AreTaken, ChangesFile, Context, HasCause, HasNoEnd, IsCut, IsDone, IsEndOf, IsPartOf, IsReadOut, IsSaid, LoadsFile, Past, Says, Side, Sides, Progress, Stops, WithFile, Work, line_most}
 use Rattle.server_loops.specs.Texts.{bad_line_text, bad_network_text, read_fault_text, stop_text, too_large_text}
-use Rattle.server_loops.specs.declared.lines.Errand.{Errand}
-use Rattle.server_loops.specs.declared.lines.Errand.TheVariants.{File, Stop, Nothing}
+use Rattle.server_loops.specs.declared.lines.Task.{Task}
+use Rattle.server_loops.specs.declared.lines.Task.TheVariants.{File, Stop, Nothing}
 use Rattle.server_loops.specs.declared.operating.Operated.{Operated}
 use Rattle.server_loops.specs.declared.operating.Operated.TheVariants.{ReadFault, Turns, Spent, NoMemory}
 
@@ -86,11 +86,11 @@ IsFile files number name (Ok None) faults now failed_at before after =
 IsFile files number name (Err end) faults now failed_at before after = end ≡ NoMemory
 
 -- what a line of an operator asks for
-abbrev pub errand_of : OperatorLine → Errand
-errand_of (line.Load at name) = File false at name
-errand_of (line.Change at name) = File true at name
-errand_of line.Stop = Stop
-errand_of e = Nothing
+abbrev pub task_of : OperatorLine → Task
+task_of (line.Load at name) = File false at name
+task_of (line.Change at name) = File true at name
+task_of line.Stop = Stop
+task_of e = Nothing
 
 -- what a file asks for, by whether it has changes
 abbrev pub DoesText : Bool → NetworkParts → ℕ → As → List ℕ → List Shown → List ℕ → Work → Type 0
@@ -98,13 +98,13 @@ DoesText true n number at name list file w = ChangesFile n number at name file l
 DoesText false n number at name list file w = LoadsFile n number at name file list w
 
 -- what a line does that names this file
-abbrev pub DoesFile : Context → ℕ → Bool × As × List ℕ → Progress → Progress → Work → Type 0
-DoesFile x number f a b w = WithFile x number f.2 a b (DoesText f.0 x.network number f.1 f.2 a.past.shown) w
+abbrev pub DoesFile : Context → ℕ → Bool → As → List ℕ → Progress → Progress → Work → Type 0
+DoesFile x number is_change at name a b w = WithFile x number name a b (DoesText is_change x.network number at name a.past.shown) w
 
-abbrev pub DoesErrand : Context → ℕ → Errand → Progress → Progress → Work → Type 0
-DoesErrand x number (File is_change at name) a b w = DoesFile x number (is_change, at, name) a b w
-DoesErrand x number Stop a b w = Says (stop_text number) w
-DoesErrand x number Nothing a b w = Says (bad_line_text number) w
+abbrev pub DoesTask : Context → ℕ → Task → Progress → Progress → Work → Type 0
+DoesTask x number (File is_change at name) a b w = DoesFile x number is_change at name a b w
+DoesTask x number Stop a b w = Says (stop_text number) w
+DoesTask x number Nothing a b w = Says (bad_line_text number) w
 
 -- the chart after a line
 abbrev pub EndsAs : Result (Unit {0}) Operated → Option ℕ → Type 0

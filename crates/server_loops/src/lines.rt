@@ -4,7 +4,7 @@ ghost use Rattle.ted_watch.specs.Watch.{list_of, published};
 ghost use Rattle.ted_watch.specs.declared.shown.Shown.{Shown};
 ghost use Rattle.server_loops.specs.Operating.{AreOfElements, Does, DoesAsked, Says, context, line_most, past, progress};
 ghost use Rattle.plant_text.specs.OperatorLines.{line_in};
-ghost use Rattle.server_loops.specs.OperatorSteps.{EndsAs, Goes, IsBegun, errand_of, text_of};
+ghost use Rattle.server_loops.specs.OperatorSteps.{EndsAs, Goes, IsBegun, task_of, text_of};
 ghost use Rattle.server_loops.specs.Sites.{Stays};
 ghost use Rattle.server_loops.specs.Texts.{bad_line_text, stop_text, too_large_text};
 ghost use Rattle.server_loops.specs.declared.operating.Operated.TheVariants.{NoMemory};
@@ -104,23 +104,23 @@ impl Begun {
 
 // What a line asks for: a file of an element, by whether it has changes; that serving ends; or nothing that is done here.
 #[derive(Drop)]
-pub(crate) enum Errand {
+pub(crate) enum Task {
     File(bool, As, Text),
     Stop,
     Nothing,
 }
 
-fn errand_of(asked: OperatorLine) -> Errand
-    ensures { result ≡ errand_of asked }
+fn task_of(asked: OperatorLine) -> Task
+    ensures { result ≡ task_of asked }
 {
     match asked {
-        OperatorLine::Load(at, name) => Errand::File(false, at, name),
-        OperatorLine::Change(at, name) => Errand::File(true, at, name),
-        OperatorLine::Stop => Errand::Stop,
-        OperatorLine::Show(_) => Errand::Nothing,
-        OperatorLine::Shut(_) => Errand::Nothing,
-        OperatorLine::Break(..) => Errand::Nothing,
-        OperatorLine::Write(..) => Errand::Nothing,
+        OperatorLine::Load(at, name) => Task::File(false, at, name),
+        OperatorLine::Change(at, name) => Task::File(true, at, name),
+        OperatorLine::Stop => Task::Stop,
+        OperatorLine::Show(_) => Task::Nothing,
+        OperatorLine::Shut(_) => Task::Nothing,
+        OperatorLine::Break(..) => Task::Nothing,
+        OperatorLine::Write(..) => Task::Nothing,
     }
 }
 
@@ -174,8 +174,8 @@ fn do_asked<T: Store, D: Chart, R: Wait + Drop>(
     ensures later { T.faults store.old ≤ T.faults store.new }
     ensures files { T.files store.new ≡ T.files store.old }
 {
-    match errand_of(asked) {
-        Errand::File(is_change, at, name) => {
+    match task_of(asked) {
+        Task::File(is_change, at, name) => {
             let name = name.as_str();
             let line = FileLine {
                 number,
@@ -185,8 +185,8 @@ fn do_asked<T: Store, D: Chart, R: Wait + Drop>(
             };
             do_file(alloc, desk, store, network, publisher, line, into)
         }
-        Errand::Stop => do_stop(desk, number, into),
-        Errand::Nothing => tell_bad_line(number, into),
+        Task::Stop => do_stop(desk, number, into),
+        Task::Nothing => tell_bad_line(number, into),
     }
 }
 

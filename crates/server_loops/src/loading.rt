@@ -242,7 +242,7 @@ pub(crate) fn do_file<T: Store, D: Chart, R: Wait + Drop>(
 ) -> Result<(), Operated>
     requires elements { AreOfElements network.now (published publisher.old) }
     requires fresh { (D.charted desk.old).spent ≡ None }
-    ensures goes { Goes (DoesFile (context network.now (T.files store.old)) line.entry.number (line.entry.is_change, line.entry.at, line.entry.name.now) (progress (D.charted desk.old) (published publisher.old) (T.faults store.old) (T.failed_at store.old)) (progress (D.charted desk.new) (published publisher.new) (T.faults store.new) (T.failed_at store.new))) result (past (D.charted desk.old) (published publisher.old)) (past (D.charted desk.new) (published publisher.new)) (D.charted desk.new).spent into.old.items into.new.items }
+    ensures goes { Goes (DoesFile (context network.now (T.files store.old)) line.entry.number line.entry.is_change line.entry.at line.entry.name.now (progress (D.charted desk.old) (published publisher.old) (T.faults store.old) (T.failed_at store.old)) (progress (D.charted desk.new) (published publisher.new) (T.faults store.new) (T.failed_at store.new))) result (past (D.charted desk.old) (published publisher.old)) (past (D.charted desk.new) (published publisher.new)) (D.charted desk.new).spent into.old.items into.new.items }
     ensures stays { Stays D.is_at desk.old desk.new }
     ensures elements { AreOfElements network.now (published publisher.new) }
     ensures list { list_of publisher.new ≡ list_of publisher.old }

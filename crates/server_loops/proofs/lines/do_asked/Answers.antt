@@ -1,10 +1,10 @@
 use Rattle.std.proofs.Common.{◌∙◌, ℕ, List, sym, subst, refl}
 use Rattle.ted_watch.specs.Watch.{published}
 use Rattle.server_loops.specs.Operating.{Says, context, past, progress}
-use Rattle.server_loops.specs.OperatorSteps.{DoesErrand, DoesFile, Goes}
+use Rattle.server_loops.specs.OperatorSteps.{DoesTask, DoesFile, Goes}
 use Rattle.server_loops.specs.Texts.{bad_line_text}
-use Rattle.server_loops.specs.declared.lines.Errand.TheVariants.{File, Stop, Nothing}
-use Rattle.server_loops.proofs.Doing.{asked_goes, said_or}
+use Rattle.server_loops.specs.declared.lines.Task.TheVariants.{File, Stop, Nothing}
+use Rattle.server_loops.proofs.Doing.{asked_goes_task, said_or}
 use Rattle.server_loops.proofs.lines.do_asked.Goals as goal
 
 pub returns-in-File-clause-goes : goal.returns-in-File-clause-goes
@@ -18,8 +18,8 @@ returns-in-File-clause-goes g c =
     let after = c.do_file.new.into.items in
     let is_change = c.in-File.is_change in
     let at = c.in-File.at in
-    asked_goes x k c.args.asked (File is_change at c.in-File.name) a b c.do_file.result a.past b.past spent before after (sym c.errand_of.ensures ∙ c.in-File.is)
-    (subst (λ (name : List ℕ). Goes (DoesFile x k (is_change, at, name) a b) c.do_file.result a.past b.past spent before after) c.as_str-name.ensures c.do_file.ensures.goes)
+    asked_goes_task x k c.args.asked (File is_change at c.in-File.name) a b c.do_file.result a.past b.past spent before after (sym c.task_of.ensures ∙ c.in-File.is)
+    (subst (λ (name : List ℕ). Goes (DoesFile x k is_change at name a b) c.do_file.result a.past b.past spent before after) c.as_str-name.ensures c.do_file.ensures.goes)
 
 pub returns-in-Stop-clause-goes : goal.returns-in-Stop-clause-goes
 returns-in-Stop-clause-goes g c =
@@ -29,7 +29,7 @@ returns-in-Stop-clause-goes g c =
     let a = progress (g.D.Chart.charted c.args.desk.now) shown (g.T.Store.faults c.args.store.now) (g.T.Store.failed_at c.args.store.now) in
     let b = progress (g.D.Chart.charted c.do_stop.new.desk) shown (g.T.Store.faults c.args.store.now) (g.T.Store.failed_at c.args.store.now) in
     let spent = (g.D.Chart.charted c.do_stop.new.desk).spent in
-    asked_goes x k c.args.asked Stop a b c.do_stop.result a.past b.past spent c.args.into.now.items c.do_stop.new.into.items (sym c.errand_of.ensures ∙ c.in-Stop.is) (c.do_stop.ensures.goes shown)
+    asked_goes_task x k c.args.asked Stop a b c.do_stop.result a.past b.past spent c.args.into.now.items c.do_stop.new.into.items (sym c.task_of.ensures ∙ c.in-Stop.is) (c.do_stop.ensures.goes shown)
 
 pub returns-in-Nothing-clause-goes : goal.returns-in-Nothing-clause-goes
 returns-in-Nothing-clause-goes g c =
@@ -39,5 +39,5 @@ returns-in-Nothing-clause-goes g c =
     let spent = (g.D.Chart.charted c.args.desk.now).spent in
     let before = c.args.into.now.items in
     let after = c.tell_bad_line.new.into.items in
-    asked_goes x k c.args.asked Nothing a a c.tell_bad_line.result a.past a.past spent before after (sym c.errand_of.ensures ∙ c.in-Nothing.is)
-    (said_or (DoesErrand x k Nothing a a) (bad_line_text k) c.tell_bad_line.result a.past spent before after refl c.requires.fresh c.tell_bad_line.ensures.told c.tell_bad_line.ensures.lack)
+    asked_goes_task x k c.args.asked Nothing a a c.tell_bad_line.result a.past a.past spent before after (sym c.task_of.ensures ∙ c.in-Nothing.is)
+    (said_or (DoesTask x k Nothing a a) (bad_line_text k) c.tell_bad_line.result a.past spent before after refl c.requires.fresh c.tell_bad_line.ensures.told c.tell_bad_line.ensures.lack)
