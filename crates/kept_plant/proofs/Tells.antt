@@ -130,6 +130,23 @@ entry_stays why s (Hand empty) (Handed h) at allows = (hand_stays h s.tape allow
 entry_stays why s Stop Stopped at allows = (end_stays end.Stopped s.tape (ended_by end.Stopped s.tape) refl, ap (λ (o : Option TapeEnd). Some (end_after o end.Stopped)) at)
 entry_stays why s a r at allows = absurd allows
 
+-- how many events were handed out by then
+told_counted : (o : Option TapeEnd) (e : Event) (old new : Taped) → IsToldTo o e old new → new.handed ≡ old.handed
+told_counted (Some why) e old new is = ap (λ (t : Taped). t.handed) is
+told_counted None e old new (inl kept) = ap (λ (t : Taped). t.handed) kept.3
+told_counted None e old new (inr (inl behind)) = ap (λ (t : Taped). t.handed) behind.1
+told_counted None e old new (inr (inr none)) = ap (λ (t : Taped). t.handed) none
+
+fold_counted : (o : Option Event) (old new : Taped) → Folds o old new → new.handed ≡ old.handed
+fold_counted None old new is = ap (λ (t : Taped). t.handed) is
+fold_counted (Some e) old new is = told_counted old.ended e old new is
+
+pub entry_counted : (s : Kept) (a : KeptAct) (r : KeptAnswer) → KeptAllows s a r → (kept_after s a r).tape.handed ≡ s.tape.handed + length (handed_by a r)
+entry_counted s (Turn a) (Turned t tape) allows = fold_counted (told_event a t.acted) s.tape tape.value allows.1 ∙ same_count s.tape.handed
+entry_counted s (Hand empty) (Handed h) allows = (hand_stays h s.tape allows).counted
+entry_counted s Stop Stopped allows = same_count s.tape.handed
+entry_counted s a r allows = absurd allows
+
 -- ---- histories
 
 one_told : (o : Option Event) (es : List Event) → cons_option o es ≡ cons_option o [] ++ es

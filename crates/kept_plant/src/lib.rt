@@ -13,5 +13,5 @@ mod turned;
 pub use acts::{KeptAct, KeptAnswer};
 pub use event_tape::{Handed, Tape, TapeEnd, Told};
 pub use kept::KeptPlant;
-pub use laws::{ended_tapes_stay, kept_histories_are_legal, tapes_tell};
+pub use laws::{ended_tapes_stay, hands_tell, kept_histories_are_legal, tapes_tell};
 pub use telling::tell_load;

@@ -16,15 +16,18 @@ use te_links::Topology;
 struct Hands {
     later: Vec<Handed>,
     made: Noted<Handed>,
+    spent: Option<u64>,
 }
 
 impl TapeDesk for Hands {
-    ghost handed = { λ d. record { hands = d.made.items; spent = None } };
+    ghost handed = { λ d. record { hands = d.made.items; spent = d.spent } };
 
     fn hand(&mut self, _room: List<Told>) -> Result<Handed, u64> {
         let Some(handed) = self.later.pop() else {
+            self.spent = Some(7);
             return Err(7);
         };
+        self.spent = None;
         self.made = self.made.and(&handed);
         Ok(handed)
     }
@@ -89,6 +92,7 @@ fn desk(alloc: Global, before: u64) -> Result<Hands, Fail> {
     Ok(Hands {
         later,
         made: Noted::new(),
+        spent: None,
     })
 }
 
