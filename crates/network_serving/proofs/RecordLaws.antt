@@ -1,7 +1,6 @@
 -- What is handed out at a seat, and what a record is told of it.
 use Rattle.std.proofs.Common.{inl, inr, ◌≡◌, ◌∙◌, ℕ, List, [], ◌∷◌, ◌++◌, Option, Some, None, Ok, Err, ap, append-nil, append_assoc, refl, subst, sym}
 use Rattle.std.specs.declared.result.Result.{Result}
-use Rattle.std.specs.List.{filter_map}
 use Rattle.std.proofs.lemmas.List.Elements.{filter_map-append}
 use Rattle.plant_text.specs.declared.settings.ElementRow.{ElementRow}
 use Rattle.event_tape.specs.Tapes.{Taped, end_after, ended_by}
@@ -9,6 +8,7 @@ use Rattle.event_tape.specs.declared.tape.TapeEnd.{TapeEnd}
 use Rattle.event_tape.specs.declared.tape.TapeEnd.TheVariants.{Behind, NoMemory}
 use Rattle.event_tape.specs.declared.tape.Handed.{Handed as HandedOut}
 use Rattle.event_tape.specs.declared.told.Told.{Told}
+use Rattle.kept_plant.specs.Handing.{hand_of, hands_in}
 use Rattle.kept_plant.specs.Tellings.{Folds, IsToldOpen, IsToldTo}
 use Rattle.kept_plant.specs.declared.acts.KeptAct.{KeptAct}
 use Rattle.kept_plant.specs.declared.acts.KeptAct.TheVariants.{Hand, Stop}
@@ -21,23 +21,23 @@ use Rattle.plant_record.specs.Recording.{HasCause, Records}
 use Rattle.plant_record.specs.declared.recorded.Recorded.{Recorded}
 use Rattle.plant_record.specs.declared.recorded.Recorded.TheVariants as recorded
 use Rattle.turn_desk.specs.Seats.{IsHand, IsStop, Seated}
-use Rattle.network_serving.specs.Records.{AreFirst, IsFirst, IsNoRecord, IsPushedFirst, hand_of, hands_at}
+use Rattle.network_serving.specs.Records.{AreFirst, IsFirst, IsNoRecord, IsPushedFirst, hands_at}
 use Rattle.network_serving.specs.declared.served.Served.{Served}
 use Rattle.network_serving.specs.declared.served.Served.TheVariants as served
 
 -- one entry more at a seat
-entry_more : (old new : List (KeptAct × KeptAnswer)) (e : KeptAct × KeptAnswer) → new ≡ old ++ e ∷ [] → filter_map hand_of new ≡ filter_map hand_of old ++ filter_map hand_of (e ∷ [])
-entry_more old new e is = ap (filter_map hand_of) is ∙ filter_map-append hand_of old (e ∷ [])
+entry_more : (old new : List (KeptAct × KeptAnswer)) (e : KeptAct × KeptAnswer) → new ≡ old ++ e ∷ [] → hands_in new ≡ hands_in old ++ hands_in (e ∷ [])
+entry_more old new e is = ap hands_in is ∙ filter_map-append (λ (x : KeptAct × KeptAnswer). hand_of x.0 x.1) old (e ∷ [])
 
 -- what the tape hands out
 pub hand_goes : (old new : Seated) (empty : List Told) (r : Result HandedOut ℕ) → IsHand empty r old new → Goes (hands_at old) (hands_at new) r
 hand_goes old new empty (Ok h) e = (entry_more old.own new.own (Hand empty, Handed h) e.own, e.spent.1)
-hand_goes old new empty (Err t) k = (ap (filter_map hand_of) k.own, k.spent)
+hand_goes old new empty (Err t) k = (ap hands_in k.own, k.spent)
 
 -- the end of the tape hands out nothing
 pub stop_stays : (old new : Seated) (r : Result (Unit {0}) ℕ) → IsStop r old new → (hands_at new).hands ≡ (hands_at old).hands
-stop_stays old new (Ok done) e = entry_more old.own new.own (Stop, Stopped) e.own ∙ append-nil (filter_map hand_of old.own)
-stop_stays old new (Err t) k = ap (filter_map hand_of) k.own
+stop_stays old new (Ok done) e = entry_more old.own new.own (Stop, Stopped) e.own ∙ append-nil (hands_in old.own)
+stop_stays old new (Err t) k = ap hands_in k.own
 
 -- a desk that is spent stays so
 pub stop_spent : (old new : Seated) (r : Result (Unit {0}) ℕ) → IsStop r old new → (t : ℕ) → old.spent ≡ Some t → new.spent ≡ Some t

@@ -1,20 +1,15 @@
 -- A record that a server writes: what its desk handed out, and what became of that.
 use Rattle.std.specs.Prelude.{◌≡◌, ◌⊎◌, ◌++◌, ◌∷◌, ◌^◌, ◌-◌, [], ℕ, Bool, true, false, List, map, Option, Some, None}
-use Rattle.std.specs.List.{filter_map}
 use Rattle.dom_base.specs.declared.names.As.{As}
 use Rattle.dom_edge.specs.Causes.{Rose}
 use Rattle.dom_edge.specs.Folders.{Contents}
 use Rattle.event_tape.specs.Tapes.{Taped, empty_tape, event_of}
-use Rattle.event_tape.specs.declared.tape.Handed.{Handed as HandedOut}
 use Rattle.event_tape.specs.declared.tape.TapeEnd.TheVariants.{Stopped}
 use Rattle.event_tape.specs.declared.told.Told.{Told}
-use Rattle.kept_plant.specs.declared.acts.KeptAct.{KeptAct}
-use Rattle.kept_plant.specs.declared.acts.KeptAct.TheVariants.{Hand}
-use Rattle.kept_plant.specs.declared.acts.KeptAnswer.{KeptAnswer}
-use Rattle.kept_plant.specs.declared.acts.KeptAnswer.TheVariants.{Handed}
 use Rattle.plant_network.specs.plant_model.declared.event.Event.TheVariants.{Load}
 use Rattle.plant_network.specs.Topologies.{whole}
 use Rattle.plant_network.specs.Whole.{Whole}
+use Rattle.kept_plant.specs.Handing.{hands_in}
 use Rattle.kept_plant.specs.declared.kept.KeptPlant.{KeptPlant}
 use Rattle.plant_record.specs.Hands.{Hands}
 use Rattle.plant_record.specs.Parts.{Title}
@@ -83,13 +78,9 @@ IsTapedSo recorded n s = HasTapeOf recorded n s.start × (s.seen ≡ []) × (s.o
 
 -- ---- what was handed out
 
-abbrev pub hand_of : KeptAct × KeptAnswer → Option HandedOut
-hand_of (Hand empty, Handed h) = Some h
-hand_of e = None
-
 -- by the own entries of a seat
 abbrev pub hands_at : Seated → Hands
-hands_at s = record { hands = filter_map hand_of s.own; spent = s.spent }
+hands_at s = record { hands = hands_in s.own; spent = s.spent }
 
 -- what it stands on, where there is one
 abbrev pub desks_in : {F G M E R : Type 0} → Option (Recorder F G M E R) → List Base
