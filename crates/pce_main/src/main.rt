@@ -2,52 +2,26 @@
 #![tactic(auto)]
 
 mod errors;
+mod help;
 mod patient;
 mod ports;
 mod progress;
 mod server;
 mod steady;
 
+use crate::help::{HELP, asks_for_help, say_help, say_what_is_wrong};
 use crate::progress::Progress;
 use crate::server::{Ended, serve_network};
 use crate::steady::Told;
 use dom_edge::{FileStore, InputSource, OutputSink, write_all};
 use pce_tool::{Status, run};
 use std::alloc::Global;
+use std::io::IsTerminal;
 use std::process::ExitCode;
 use std::sync::Wait;
 use std::thread::Threads;
 use std::time::Clock;
 use std::{env, fmt, io};
-
-const HELP: &str = "\
-usage: pce COMMAND
-
-answer TOPO         reads a path request in hexadecimal, writes the reply in hexadecimal
-certify TOPO        reads the same, writes a certificate: the least labels and the chosen path
-verify TOPO CERT    reads the same, checks a certificate, writes `holds`
-pair TOPO           reads two path requests joined by an SVEC, writes the two replies: the least pair
-                    of paths that share no link
-pair-certify TOPO   reads the same, writes a certificate of that pair, or that there is none
-pair-verify TOPO CERT
-                    reads the same, checks a certificate of a pair, writes `holds`
-path NET SRC DST AS ..
-                    asks a network for a path through these domains, as a client of the first, writes
-                    its cost and hops, a line each
-path NET SRC DST parent AS
-                    asks for a path from that domain, whose domains the parent finds
-play NET            reads a script of events, plays it on a network, writes its transcript
-serve NET           serves a network at the ports of its peers until it is ended by a signal: reads lines
-                    `load AS FILE` and `change AS FILE`, writes what came of each
-blind NET           reads a script whose solves have border tables, plays it on a network without
-                    topologies, writes what closed peers hear
-bulk N              draws a large network and N requests (1 to 8000), writes what they are answered in all
---help              writes this table
---version           writes the versions of the program and of the toolchain
-
-Files that settings and scripts name are looked for in the folder of the settings. `serve` listens at
-the address in the variable PCE_LISTEN (`all` for all of the machine), or without it at 127.0.0.1.
-";
 
 const VERSION: &str = "pce 0.1.0, proved with rattle-kit-13f logic dac8208d650f15bf\n";
 
@@ -73,7 +47,7 @@ fn words_of(rt: &HostRuntime) -> Result<Vec<String>, Status> {
 
 // Whether the word behind this command is the file of a network's settings.
 fn takes_settings(verb: &str) -> bool {
-    matches!(verb, "path" | "play" | "blind" | "serve")
+    matches!(verb, "path" | "play" | "blind" | "serve" | "check")
 }
 
 // A file's folder and its name there; none where the name begins in the working folder.
@@ -106,19 +80,19 @@ fn enter_folder(rt: &HostRuntime, words: &mut [String]) -> Result<(), Status> {
 }
 
 // Runs a command over the real files, input and output.
-fn run_command(rt: &HostRuntime, mut words: Vec<String>) -> Status {
-    if let Err(status) = enter_folder(rt, &mut words) {
+fn run_command(rt: &HostRuntime, words: &mut [String]) -> Status {
+    if let Err(status) = enter_folder(rt, words) {
         return status;
     }
     let alloc = rt.alloc();
     let mut store = FileStore::new(alloc, *rt);
     let mut input = InputSource::new(rt.reader());
     let mut out = Progress::new(*rt, OutputSink::new(io::writer(rt)));
-    run(alloc, &words, &mut store, &mut input, &mut out)
+    run(alloc, words, &mut store, &mut input, &mut out)
 }
 
-fn status_of(rt: &HostRuntime, words: Vec<String>) -> Status {
-    match words.as_slice() {
+fn status_of(rt: &HostRuntime, words: &mut [String]) -> Status {
+    match &*words {
         [word] if word.as_str() == "--help" => say(rt, HELP),
         [word] if word.as_str() == "--version" => say(rt, VERSION),
         _ => run_command(rt, words),
@@ -133,6 +107,30 @@ fn end<E: fmt::Display>(rt: &HostRuntime, number: u8, text: &E) -> ExitCode {
     ExitCode::from(number)
 }
 
+// What is said behind a status: help where the words ask for it; and on a terminal which word is wrong, or what tells more of the files.
+fn say_more(rt: &HostRuntime, words: &[String], is_usage: bool, is_of_files: bool) {
+    if asks_for_help(words) {
+        say_help(rt, words);
+    } else if !rt.stderr().is_terminal() {} else if is_usage {
+        say_what_is_wrong(rt, words);
+    } else if is_of_files {
+        let _ = eprintln!(rt; "pce: `pce check` with these settings tells every fault");
+    }
+}
+
+// Whether a command over settings ended by a file of them.
+fn is_of_files(words: &[String], status: &Status) -> bool {
+    let [verb, ..] = words else {
+        return false;
+    };
+    match status {
+        Status::BadNetwork { line, .. } => takes_settings(verb.as_str())
+            && (*line == 0 || verb.as_str() == "path"),
+        Status::ReadFault => verb.as_str() == "path",
+        _ => false,
+    }
+}
+
 // Serves a network, beside whose settings the files are that these and an operator name.
 fn end_of_server<R>(rt: &HostRuntime, threads: R, words: &mut [String]) -> ExitCode
 where
@@ -145,16 +143,23 @@ where
         [_verb, settings] => serve_network(rt, threads, settings.as_str()),
         _ => Ended::Usage,
     };
-    end(rt, ended.number(), &ended)
+    let code = end(rt, ended.number(), &ended);
+    say_more(rt, words, false, ended.is_of_files());
+    code
 }
 
 fn main(rt: HostRuntime) -> ExitCode {
     match words_of(&rt) {
         Ok(mut words) if matches!(words.as_slice(), [verb, _] if verb.as_str() == "serve") =>
             end_of_server(&rt, rt, &mut words),
-        Ok(words) => {
-            let status = status_of(&rt, words);
-            end(&rt, status.number(), &status)
+        Ok(mut words) => {
+            let status = status_of(&rt, &mut words);
+            let code = end(&rt, status.number(), &status);
+            if status.number() != 0 {
+                let is_usage = matches!(status, Status::Usage);
+                say_more(&rt, &words, is_usage, is_of_files(&words, &status));
+            }
+            code
         }
         Err(status) => end(&rt, status.number(), &status),
     }

@@ -39,6 +39,16 @@ impl Ended {
     }
 }
 
+impl Ended {
+    /// Whether a file of the settings ended it.
+    pub(crate) fn is_of_files(&self) -> bool {
+        matches!(
+            self,
+            Ended::Served(Served::BadNetwork { .. } | Served::ReadFault | Served::TooLarge(_))
+        )
+    }
+}
+
 fn fmt_bad<W: fmt::Write>(
     f: &mut fmt::Formatter<W>,
     file: &Text,
