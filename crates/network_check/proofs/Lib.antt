@@ -1,5 +1,7 @@
+pub mod Forming
 pub mod Kinding
 pub mod Looking
+pub mod Passing
 pub mod Peers
 pub mod Placing
 pub mod Reading

@@ -35,13 +35,15 @@ counted_through k j a b c one other =
 -- what a file was found to be stays so while faults are counted on, and was so since an earlier count
 look_within : (files : Option Files) (at : As) (name : List ℕ) (a b c d : ℕ) → a ≤ b → c ≤ d → (l : Look) → IsChartLook files at name (b, c) l → IsChartLook files at name (a, d) l
 look_within files at name a b c d below above (look.Read chart) is = is
-look_within files at name a b c d below above (look.Refused line fault) is = is
+look_within files at name a b c d below above (look.Malformed text) is = is
+look_within files at name a b c d below above (look.Refused breaches) is = is
 look_within files at name a b c d below above look.Unread is = omega (arith, below, above, is)
 look_within files at name a b c d below above look.TooLong is = is
 
 look_counted : (files : Option Files) (at : As) (name : List ℕ) (b c : ℕ) → b ≤ c → (l : Look) → IsChartLook files at name (b, c) l → counted_on (unread_look l) b ≤ c
 look_counted files at name b c le (look.Read chart) is = le
-look_counted files at name b c le (look.Refused line fault) is = le
+look_counted files at name b c le (look.Malformed text) is = le
+look_counted files at name b c le (look.Refused breaches) is = le
 look_counted files at name b c le look.Unread is = is
 look_counted files at name b c le look.TooLong is = le
 

@@ -4,7 +4,6 @@ use Rattle.std.specs.declared.option.Option.{Option}
 use Rattle.dom_base.specs.declared.names.As.{As}
 use Rattle.dom_edge.specs.Stores.{Files, HasFile, Holds, ReadsFile}
 use Rattle.te_text.specs.Reads.{Reads}
-use Rattle.network_files.specs.Reading.{IsTopologyFault}
 use Rattle.network_files.specs.Settings.{settings_max}
 use Rattle.network_files.specs.Topologies.{topology_max}
 use Rattle.network_files.proofs.Found.{in_file}
@@ -14,7 +13,9 @@ use Rattle.network_check.specs.declared.looks.Look.{Look}
 use Rattle.network_check.specs.declared.looks.Look.TheVariants as look
 use Rattle.network_check.specs.declared.looks.Settings.{Settings}
 use Rattle.network_check.specs.declared.looks.Settings.TheVariants as settings
+use Rattle.network_check.specs.Breaches.{IsRefused}
 use Rattle.network_check.specs.Documents.{IsNoneAt}
+use Rattle.network_check.specs.Forms.{IsMalformed}
 use Rattle.network_check.specs.Looks.{IsChartLook, IsChartText, IsSettings, IsSettingsText}
 
 has_read : (files : Option Files) (name bytes : List ℕ) (limit : ℕ) → ReadsFile files name limit (Ok bytes) → HasFile files name bytes
@@ -32,7 +33,12 @@ chart_look files at name text counts reads within (look.Read c) is = (
   subst (λ (t : List ℕ). Reads t c.topology) (sym is.0) is.1,
   is.2,
 )
-chart_look files at name text counts reads within (look.Refused line fault) is = in_file files name text topology_max (λ bytes. IsTopologyFault at bytes line fault) reads is
+chart_look files at name text counts reads within (look.Malformed bytes) is = (
+  subst (HasFile files name) (sym is.0) (has_read files name text topology_max reads),
+  subst (λ (t : List ℕ). length t ≤ topology_max) (sym is.0) within,
+  subst IsMalformed (sym is.0) is.1,
+)
+chart_look files at name text counts reads within (look.Refused breaches) is = in_file files name text topology_max (λ bytes. IsRefused at bytes breaches) reads is
 chart_look files at name text counts reads within look.Unread is = absurd is
 chart_look files at name text counts reads within look.TooLong is = absurd is
 

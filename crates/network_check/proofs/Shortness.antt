@@ -28,7 +28,8 @@ settings_short files name counts settings.TooLong is = tt
 
 look_short : (files : Option Files) (at : As) (name : List ℕ) (counts : ℕ × ℕ) (l : Look) → IsChartLook files at name counts l → IsShort l
 look_short files at name counts (look.Read c) is = omega (arith, few c.text, is.1)
-look_short files at name counts (look.Refused line fault) is = tt
+look_short files at name counts (look.Malformed text) is = omega (arith, few text, is.1)
+look_short files at name counts (look.Refused breaches) is = tt
 look_short files at name counts look.Unread is = tt
 look_short files at name counts look.TooLong is = tt
 

@@ -1,9 +1,9 @@
 -- What is told of the keys of rows: which lack, which are not known, and which have a value that they may not have.
-use Rattle.std.specs.Prelude.{ℕ, ◌+◌, Bool, true, false, not, List, [], ◌∷◌, ◌++◌, codes, decimal, find, Option, Some, None, if◌then◌else◌}
+use Rattle.std.specs.Prelude.{ℕ, pos, ◌+◌, Bool, true, false, not, List, [], ◌∷◌, ◌++◌, codes, decimal, find, Option, Some, None, if◌then◌else◌}
 use Rattle.std.specs.List.{list_any}
 use Rattle.std.specs.Str.{bytes_eq}
 use Rattle.dom_base.specs.Steps.{◌>>=◌}
-use Rattle.toml.specs.Data.{Data, Items, no_items, item, Members, array, as_str, as_table, get, get_member}
+use Rattle.toml.specs.Data.{Data, Items, no_items, item, Members, integer, array, as_str, as_table, get, get_member}
 use Rattle.plant_text.specs.SettingsText.{names}
 use Rattle.network_check.specs.declared.fields.Field.{Field}
 use Rattle.network_check.specs.declared.fields.Field.TheVariants.{Must, May}
@@ -76,21 +76,35 @@ row_text s i label cs ms = columns_text s i label ms cs ++ others_text s i label
 
 -- ---- the rows of a table
 
--- the name of a row that has one
+-- the name of a row that has one; the number of its domain
 abbrev pub name_in : Data → Option (List ℕ)
 name_in d = get (codes "name") d >>= as_str
 
--- what a row is called: its table, its index from 0, and its name where it has one
-abbrev pub row_label : List ℕ → ℕ → Option (List ℕ) → List ℕ
-row_label name i None = joined (name ∷ codes " " ∷ decimal i ∷ [])
-row_label name i (Some own) = joined (name ∷ codes " " ∷ decimal i ∷ codes " " ∷ shown own ∷ [])
+abbrev pub whole : Data → Option ℕ
+whole (integer (pos n)) = Some n
+whole other = None
+
+abbrev pub domain_in : Data → Option ℕ
+domain_in d = get (codes "as") d >>= whole
+
+-- what a row is called: its table, and its name or the number of its domain, where it has one
+abbrev pub domain_label : List ℕ → Option ℕ → List ℕ
+domain_label table None = table
+domain_label table (Some n) = joined (table ∷ codes " of domain " ∷ decimal n ∷ [])
+
+abbrev pub row_label : List ℕ → Option (List ℕ) → Option ℕ → List ℕ
+row_label table None domain = domain_label table domain
+row_label table (Some name) domain = joined (table ∷ codes " " ∷ shown name ∷ [])
+
+abbrev pub label_of : List ℕ → Data → List ℕ
+label_of table d = row_label table (name_in d) (domain_in d)
 
 abbrev pub labelled_text : Sheet → List Column → ℕ → List ℕ → Option Members → List ℕ
 labelled_text s cs i label (Some ms) = row_text s i label cs ms
 labelled_text s cs i label None = told s.file (line_of s.text s.header i) (joined (label ∷ codes ": is no table" ∷ []))
 
 abbrev pub member_text : Sheet → List Column → ℕ → Data → List ℕ
-member_text s cs i d = labelled_text s cs i (row_label s.name i (name_in d)) (as_table d)
+member_text s cs i d = labelled_text s cs i (label_of s.name d) (as_table d)
 
 abbrev pub items_text : Sheet → List Column → ℕ → Items → List ℕ
 items_text s cs i no_items = []

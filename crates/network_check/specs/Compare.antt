@@ -18,7 +18,9 @@ use Rattle.plant_text.specs.Names.{same_as}
 use Rattle.network_check.specs.declared.looks.Look.{Look}
 use Rattle.network_check.specs.declared.looks.Look.TheVariants as look
 use Rattle.network_check.specs.declared.looks.Seen.{Seen}
+use Rattle.network_check.specs.declared.breaches.Breach.{Breach}
 use Rattle.network_check.specs.Faults.{fault_text}
+use Rattle.network_check.specs.Forms.{form_text}
 use Rattle.network_check.specs.Told.{joined, told, told_if}
 
 -- ---- the other side
@@ -87,9 +89,17 @@ lines_warnings seen s (line ∷ others) = line_warnings seen s line ++ lines_war
 
 -- ---- files
 
+abbrev pub breach_text : List ℕ → Breach → List ℕ
+breach_text file b = told file b.line (joined (fault_text b.fault ∷ []))
+
+abbrev pub breaches_text : List ℕ → List Breach → List ℕ
+breaches_text file [] = []
+breaches_text file (b ∷ bs) = breach_text file b ++ breaches_text file bs
+
 abbrev pub look_text : List Seen → Seen → Look → List ℕ
 look_text seen s (look.Read c) = lines_warnings seen s (told_lines c.text)
-look_text seen s (look.Refused line fault) = told s.file line (joined (fault_text fault ∷ []))
+look_text seen s (look.Malformed text) = form_text s.file (told_lines text)
+look_text seen s (look.Refused breaches) = breaches_text s.file breaches
 look_text seen s look.Unread = told s.file 0 (joined (codes "read fault" ∷ []))
 look_text seen s look.TooLong = told s.file 0 (joined (codes "too large" ∷ []))
 
@@ -102,11 +112,13 @@ topologies_text seen (s ∷ ss) = topology_text seen s ++ topologies_text seen s
 
 abbrev pub is_refused : Look → Bool
 is_refused (look.Read c) = false
-is_refused (look.Refused line fault) = true
+is_refused (look.Malformed text) = true
+is_refused (look.Refused breaches) = true
 is_refused look.Unread = true
 is_refused look.TooLong = true
 
 -- a text that was read has fewer lines than a number of a line can say
 abbrev pub IsShort : Look → Type 0
 IsShort (look.Read c) = length (lines c.text) < 2 ^ 32
+IsShort (look.Malformed text) = length (lines text) < 2 ^ 32
 IsShort other = Unit {0}

@@ -8,7 +8,7 @@ use Rattle.plant_text.specs.declared.fault.NetFault.{NetFault}
 use Rattle.plant_text.specs.declared.fault.NetFault.TheVariants as fault
 use Rattle.network_check.specs.declared.kinds.Kind.{Kind}
 use Rattle.network_check.specs.declared.kinds.Kind.TheVariants.{Rows, Whole, Address, Fourth, Flag, Text, Name, Class, Colour, Numbers}
-use Rattle.network_check.specs.Columns.{Column, may, must, name_in, row_text, rows_text}
+use Rattle.network_check.specs.Columns.{Column, label_of, may, must, row_text, rows_text}
 use Rattle.network_check.specs.Faults.{fault_text}
 use Rattle.network_check.specs.Places.{line_of, top_line}
 use Rattle.network_check.specs.Sheets.{sheet}
@@ -103,23 +103,23 @@ first_line one other last = if one == 0 then (if other == 0 then last else other
 abbrev pub line_at : List ℕ → List ℕ → ℕ → ℕ
 line_at text name i = first_line (line_of text (header (codes "[[") name (codes "]]")) i) (line_of text (header (codes "[") name (codes "]")) 0) (top_line text name)
 
--- the name of a row that has one
-abbrev pub name_at : Members → List ℕ → ℕ → Option (List ℕ)
-name_at root name i = get_member name root >>= λ d. at i d >>= name_in
+-- what the row of a table is called
+abbrev pub label_or : List ℕ → Option Data → List ℕ
+label_or name None = shown name
+label_or name (Some d) = label_of (shown name) d
 
-abbrev pub row_words : List ℕ → List ℕ → ℕ → Option (List ℕ) → List ℕ
-row_words why name i None = joined (why ∷ shown name ∷ codes " " ∷ decimal i ∷ [])
-row_words why name i (Some own) = joined (why ∷ shown name ∷ codes " " ∷ decimal i ∷ codes " " ∷ shown own ∷ [])
+abbrev pub label_at : Members → List ℕ → ℕ → List ℕ
+label_at root name i = label_or name (get_member name root >>= λ d. at i d)
 
 abbrev pub row_fault : List ℕ → List ℕ → Members → List ℕ → List ℕ → ℕ → List ℕ
-row_fault file text root why name i = told file (line_at text name i) (row_words why name i (name_at root name i))
+row_fault file text root why name i = told file (line_at text name i) (joined (why ∷ label_at root name i ∷ []))
 
 abbrev pub settings_fault : List ℕ → List ℕ → Members → NetFault → List ℕ
 settings_fault file text root (fault.Shape name i) = row_fault file text root (codes "shape ") name i
 settings_fault file text root (fault.Duplicate name i) = row_fault file text root (codes "duplicate ") name i
 settings_fault file text root (fault.Unknown name i) = row_fault file text root (codes "unknown ") name i
-settings_fault file text root (fault.NoParent i) = row_fault file text root (codes "no parent ") (codes "element") i
-settings_fault file text root (fault.TooMany name) = told file 0 (joined (codes "too many " ∷ shown name ∷ []))
+settings_fault file text root (fault.NoParent i) = row_fault file text root (codes "no parent for ") (codes "element") i
+settings_fault file text root (fault.TooMany name) = told file (line_at text name 0) (joined (codes "too many " ∷ shown name ∷ []))
 settings_fault file text root other = told file 0 (joined (fault_text other ∷ []))
 
 -- ---- the whole

@@ -4,6 +4,9 @@ pub mod Looks
 pub mod Faulty
 pub mod Warnings
 pub mod Compare
+pub mod Breaches
+pub mod Forms
+pub mod Slots
 pub mod Columns
 pub mod Pairs
 pub mod Sheets

@@ -10,7 +10,6 @@ use Rattle.te_text.specs.Reads.{Reads}
 use Rattle.toml.specs.View.{table_view}
 use Rattle.plant_text.specs.declared.settings.ElementRow.{ElementRow}
 use Rattle.plant_text.specs.Reads.{IsFaulty, Reads as ReadsSettings, document}
-use Rattle.network_files.specs.Reading.{IsTopologyFault}
 use Rattle.network_files.specs.Settings.{settings_max}
 use Rattle.network_files.specs.Topologies.{topology_max}
 use Rattle.network_check.specs.declared.looks.Chart.{Chart}
@@ -19,7 +18,9 @@ use Rattle.network_check.specs.declared.looks.Look.TheVariants as look
 use Rattle.network_check.specs.declared.looks.Seen.{Seen}
 use Rattle.network_check.specs.declared.looks.Settings.{Settings}
 use Rattle.network_check.specs.declared.looks.Settings.TheVariants as settings
+use Rattle.network_check.specs.Breaches.{IsRefused}
 use Rattle.network_check.specs.Documents.{IsNoneAt}
+use Rattle.network_check.specs.Forms.{IsMalformed}
 
 -- ---- settings
 
@@ -44,14 +45,16 @@ IsSettings files name counts settings.TooLong = IsLongFile files name settings_m
 -- what a text is as the topology of a domain
 abbrev pub IsChartText : As → List ℕ → Look → Type 0
 IsChartText at text (look.Read c) = (c.text ≡ text) × Reads text c.topology × (c.topology.own ≡ at)
-IsChartText at text (look.Refused line fault) = IsTopologyFault at text line fault
+IsChartText at text (look.Malformed bytes) = (bytes ≡ text) × IsMalformed text
+IsChartText at text (look.Refused breaches) = IsRefused at text breaches
 IsChartText at text other = ⊥
 
 -- the file of that name is such a topology of that domain, or it is not to be had
 abbrev pub IsChartLook : Option Files → As → List ℕ → ℕ × ℕ → Look → Type 0
 IsChartLook files at name counts (look.Read c) =
     HasFile files name c.text × (length c.text ≤ topology_max) × Reads c.text c.topology × (c.topology.own ≡ at)
-IsChartLook files at name counts (look.Refused line fault) = IfFile files name (λ bytes. IsTopologyFault at bytes line fault)
+IsChartLook files at name counts (look.Malformed text) = HasFile files name text × (length text ≤ topology_max) × IsMalformed text
+IsChartLook files at name counts (look.Refused breaches) = IfFile files name (λ bytes. IsRefused at bytes breaches)
 IsChartLook files at name counts look.Unread = Rose counts.0 counts.1
 IsChartLook files at name counts look.TooLong = IsLongFile files name topology_max
 

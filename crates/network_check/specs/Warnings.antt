@@ -36,10 +36,10 @@ abbrev pub is_alone : NetworkParts → ElementRow → Bool
 is_alone n e = nat_lt 1 (length n.elements) && not (is_joined n e)
 
 abbrev pub topology_warning : List ℕ → ℕ → ElementRow → List ℕ
-topology_warning file line e = told_if (is_none e.topology) file line (joined (codes "warning element " ∷ decimal e.own.0 ∷ codes " has no topology" ∷ []))
+topology_warning file line e = told_if (is_none e.topology) file line (joined (codes "warning element of domain " ∷ decimal e.own.0 ∷ codes " has no topology" ∷ []))
 
 abbrev pub link_warning : List ℕ → ℕ → NetworkParts → ElementRow → List ℕ
-link_warning file line n e = told_if (is_alone n e) file line (joined (codes "warning element " ∷ decimal e.own.0 ∷ codes " has no link" ∷ []))
+link_warning file line n e = told_if (is_alone n e) file line (joined (codes "warning element of domain " ∷ decimal e.own.0 ∷ codes " has no link" ∷ []))
 
 -- of the element at a place: it has no topology; it has no link
 abbrev pub element_warnings : List ℕ → List ℕ → NetworkParts → ℕ → ElementRow → List ℕ

@@ -4,9 +4,11 @@ ghost use Rattle.std.specs.List.{list_any};
 ghost use Rattle.std.specs.Str.Lines.{lines as lines_of};
 ghost use Rattle.line_text.specs.Lines.{told_lines};
 ghost use Rattle.network_check.specs.declared.looks.Seen.{Seen};
-ghost use Rattle.network_check.specs.Compare.{IsShort, chart_at as first_chart, entry_warning, is_entry as is_entry_of, is_out as is_out_of, is_refused, lacks_entry as no_entry, lacks_out as no_out, line_warnings, lines_warnings, out_warning, row_warning, topologies_text, topology_text};
+ghost use Rattle.network_check.specs.Compare.{IsShort, breach_text, breaches_text, chart_at as first_chart, entry_warning, is_entry as is_entry_of, is_out as is_out_of, is_refused, lacks_entry as no_entry, lacks_out as no_out, line_warnings, lines_warnings, out_warning, row_warning, topologies_text, topology_text};
 
+use crate::breaches::Breach;
 use crate::faults::fault_words;
+use crate::forms::tell_form;
 use crate::looks::{Chart, Look, Seen};
 use crate::told::{Piece, tell, tell_if};
 use dom_base::{Addr, As, NoMemory};
@@ -188,6 +190,21 @@ fn warn_of_lines(
 
 // ---- files
 
+fn tell_breach(file: &[u8], breach: &Breach, into: &mut Vec<u8>) -> Result<(), NoMemory>
+    ensures { OnOk result (into.new.items ≡ into.old.items ++ breach_text file.now breach.now) }
+{
+    tell(file, breach.line, &[Piece::Text(fault_words(&breach.fault))], into)
+}
+
+fn tell_breaches(file: &[u8], breaches: &[Breach], into: &mut Vec<u8>) -> Result<(), NoMemory>
+    ensures { OnOk result (into.new.items ≡ into.old.items ++ breaches_text file.now breaches.now) }
+{
+    for breach in breaches {
+        tell_breach(file, breach, into)?;
+    }
+    Ok(())
+}
+
 fn tell_of(alloc: Global, seen: &[Seen], one: &Seen, into: &mut Vec<u8>) -> Result<(), NoMemory>
     requires short { IsShort one.now.look }
     ensures { OnOk result (into.new.items ≡ into.old.items ++ topology_text seen.now one.now) }
@@ -195,9 +212,8 @@ fn tell_of(alloc: Global, seen: &[Seen], one: &Seen, into: &mut Vec<u8>) -> Resu
     let file = one.file.as_str().as_bytes();
     match &one.look {
         Look::Read(chart) => warn_of_lines(alloc, seen, one, chart.text.as_slice(), into),
-        Look::Refused(line, fault) => {
-            tell(file, *line, &[Piece::Text(fault_words(fault))], into)
-        }
+        Look::Malformed(text) => tell_form(alloc, file, text.as_slice(), into),
+        Look::Refused(breaches) => tell_breaches(file, breaches.as_slice(), into),
         Look::Unread => tell(file, 0, &[Piece::Text(b"read fault")], into),
         Look::TooLong => tell(file, 0, &[Piece::Text(b"too large")], into),
     }
@@ -223,7 +239,7 @@ fn is_fault(look: &Look) -> bool
 {
     match look {
         Look::Read(_) => false,
-        Look::Refused(_, _) | Look::Unread | Look::TooLong => true,
+        Look::Malformed(_) | Look::Refused(_) | Look::Unread | Look::TooLong => true,
     }
 }
 

@@ -1,11 +1,13 @@
 //! What is to be told of the files of a network before it is served: each file that is at fault, and what no rule sees.
 #![tactic(auto)]
 
+mod breaches;
 mod compare;
 mod documents;
 mod faults;
 mod fields;
 mod findings;
+mod forms;
 mod kinds;
 mod looks;
 mod meeting;
@@ -13,6 +15,7 @@ mod pairs;
 mod places;
 mod rows;
 mod settings;
+mod slots;
 mod told;
 mod warnings;
 

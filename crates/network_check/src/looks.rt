@@ -3,16 +3,19 @@ ghost use Rattle.std.specs.Prelude.{◌≡◌, ◌≤◌, IfOk, OnOk, Some, leng
 ghost use Rattle.toml.specs.View.{table_view};
 ghost use Rattle.plant_text.specs.Reads.{document};
 ghost use Rattle.network_files.specs.Settings.{settings_max};
+ghost use Rattle.network_files.specs.Reading.{IsTopologyFault};
 ghost use Rattle.network_files.specs.Topologies.{topology_max};
+ghost use Rattle.network_check.specs.Forms.{is_form_fault};
 ghost use Rattle.network_check.specs.Looks.{AreSeen, IsChartLook, IsChartText, IsSettings, IsSettingsText, SeesRow};
 
+use crate::breaches::{Breach, breaches_of};
 use crate::documents::{Parsed, read_document};
 use dom_base::{As, Bytes, List, NoMemory, Text};
 use dom_edge::{Store, StoreError};
 use network_files::{FileError, SETTINGS_MAX, TOPOLOGY_MAX, topology_of};
 use plant_text::{ElementRow, NetError, NetFault, Network, read_network};
 use std::alloc::Global;
-use te_links::Topology;
+use te_links::{TopoFault, Topology};
 use toml::Table;
 
 /// The text of a topology, and what it says.
@@ -26,8 +29,10 @@ pub struct Chart {
 #[derive(Drop)]
 pub enum Look {
     Read(Chart),
-    /// The line at fault, and the fault.
-    Refused(u32, NetFault),
+    /// The text, which is outside the form of a topology.
+    Malformed(Bytes),
+    /// The faults, one after another.
+    Refused(List<Breach>),
     /// The read failed, or no file has the name.
     Unread,
     TooLong,
@@ -100,13 +105,38 @@ pub(crate) fn look_at_settings<S: Store>(
 
 // ---- topologies
 
+// Whether the text is outside the form, since it breaks no rule of rows.
+fn is_of_form(fault: &NetFault) -> bool
+    ensures { result ≡ is_form_fault fault.now }
+{
+    match fault {
+        NetFault::Topo(TopoFault::Syntax) | NetFault::Topo(TopoFault::NoHeader) => true,
+        _other => false,
+    }
+}
+
+// A topology that is refused.
+#[tactic(auto, using(crate::proofs::Forming::is_malformed))]
+fn refused_chart(alloc: Global, at: As, text: Bytes, first: Breach) -> Result<Look, NoMemory>
+    requires short { length text ≤ topology_max }
+    requires first { IsTopologyFault at text first.line first.fault }
+    ensures { IfOk result (IsChartText at text) }
+{
+    if is_of_form(&first.fault) {
+        return Ok(Look::Malformed(text));
+    }
+    Ok(Look::Refused(breaches_of(alloc, at, text, first)?))
+}
+
 fn chart_in(alloc: Global, at: As, text: Bytes) -> Result<Look, NoMemory>
     requires short { length text ≤ topology_max }
     ensures { IfOk result (IsChartText at text) }
 {
     match topology_of(alloc, at, text.as_slice()) {
         Ok(topology) => Ok(Look::Read(Chart { text, topology })),
-        Err(FileError::BadFile(line, fault)) => Ok(Look::Refused(line, fault)),
+        Err(FileError::BadFile(line, fault)) => {
+            refused_chart(alloc, at, text, Breach { line, fault })
+        }
         Err(FileError::NoMemory) => Err(NoMemory),
     }
 }

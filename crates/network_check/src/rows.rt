@@ -6,7 +6,7 @@ ghost use Rattle.std.specs.Str.Lines.{lines as lines_of};
 ghost use Rattle.toml.specs.Data.{get_member};
 ghost use Rattle.toml.specs.View.{items_view, table_view, view};
 ghost use Rattle.network_check.specs.Sheets.{sheet_of};
-ghost use Rattle.network_check.specs.Columns.{column, columns_text, field_text, is_column, items_text, kind_text, labelled_text, lack_text, member_text, name_in, others_text, row_label, row_text, rows_text, unknown_in, unknown_text, value_text};
+ghost use Rattle.network_check.specs.Columns.{column, columns_text, domain_in, field_text, is_column, items_text, kind_text, label_of as row_called, labelled_text, lack_text, member_text, name_in, others_text, row_label, row_text, rows_text, unknown_in, unknown_text, value_text};
 
 use crate::fields::{Field, key_of, kind_of};
 use crate::kinds::{Kind, fits, kind_words};
@@ -259,8 +259,8 @@ pub(crate) fn tell_table(
 
 // ---- the rows of a table
 
-/// The name of a row that has one.
-pub(crate) fn name_of(value: &Value) -> Option<&str>
+// The name of a row that has one.
+fn name_of(value: &Value) -> Option<&str>
     ensures { option_map (λ s. s.now) result ≡ name_in (view value.now) }
 {
     match value.get("name") {
@@ -269,33 +269,52 @@ pub(crate) fn name_of(value: &Value) -> Option<&str>
     }
 }
 
-// What a row is called: its table, its index, and its name where it has one.
-fn label_of<'x>(
-    alloc: Global,
-    name: &'x [u8],
-    index: usize,
-    value: &'x Value,
-) -> Result<Vec<u8>, NoMemory>
-    ensures { IfOk result (λ label. label.items ≡ row_label name.now index (name_in (view value.now))) }
+// The number of a row's domain, where it has one.
+fn domain_of(value: &Value) -> Option<u64>
+    ensures { result ≡ domain_in (view value.now) }
+{
+    let Some(domain) = value.get("as") else {
+        return None;
+    };
+    let Some(number) = domain.as_integer() else {
+        return None;
+    };
+    if number < 0 {
+        None
+    } else {
+        Some(number as u64)
+    }
+}
+
+fn write_label<'x>(
+    table: &'x [u8],
+    name: Option<&'x str>,
+    domain: Option<u64>,
+    into: &mut Vec<u8>,
+) -> Result<(), NoMemory>
+    ensures { OnOk result (into.new.items ≡ into.old.items ++ row_label table.now (option_map (λ s. s.now) name.entry) domain) }
+{
+    let text = Piece::Text(table);
+    match name {
+        Some(own) => {
+            let own = own.as_bytes();
+            write_pieces(&[text, Piece::Text(b" "), Piece::Name(own)], into)
+        }
+        None => match domain {
+            Some(number) => {
+                write_pieces(&[text, Piece::Text(b" of domain "), Piece::Number(number)], into)
+            }
+            None => write_pieces(&[text], into),
+        },
+    }
+}
+
+/// What a row is called: its table, and its name or the number of its domain, where it has one.
+pub(crate) fn label_of(alloc: Global, table: &[u8], value: &Value) -> Result<Vec<u8>, NoMemory>
+    ensures { IfOk result (λ label. label.items ≡ row_called table.now (view value.now)) }
 {
     let mut label = Vec::new(alloc);
-    let number = index as u64;
-    match name_of(value) {
-        Some(own) => write_pieces(
-            &[
-                Piece::Text(name),
-                Piece::Text(b" "),
-                Piece::Number(number),
-                Piece::Text(b" "),
-                Piece::Name(own.as_bytes()),
-            ],
-            &mut label,
-        )?,
-        None => write_pieces(
-            &[Piece::Text(name), Piece::Text(b" "), Piece::Number(number)],
-            &mut label,
-        )?,
-    }
+    write_label(table, name_of(value), domain_of(value), &mut label)?;
     Ok(label)
 }
 
@@ -333,7 +352,7 @@ fn tell_row(
     requires short { length (lines_of (sheet_of rows.now).text) < 2 ^ 32 }
     ensures { OnOk result (into.new.items ≡ into.old.items ++ member_text (sheet_of rows.now) (map column fields.now) index (view value.now)) }
 {
-    let label = label_of(alloc, rows.name, index, value)?;
+    let label = label_of(alloc, rows.name, value)?;
     tell_labelled(rows, index, &label, value.as_table(), fields, into)
 }
 

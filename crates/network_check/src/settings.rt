@@ -1,14 +1,17 @@
 //! What is told of settings that are at fault: the fault, and each key that lacks, is not known, or has a value that it may not have.
 ghost use Rattle.std.specs.Prelude.{◌≡◌, ◌++◌, ◌<◌, ◌^◌, IfOk, OnOk, length, option_map};
 ghost use Rattle.std.specs.Str.Lines.{lines as lines_of};
+ghost use Rattle.dom_base.specs.Steps.{◌>>=◌};
+ghost use Rattle.toml.specs.Data.{at, get_member};
 ghost use Rattle.toml.specs.View.{table_view, view};
-ghost use Rattle.network_check.specs.Faulty.{deny_text, element_text, faulty_text, first_line, header, line_at, link_text, name_at, parent_link_text, parent_text, parent_value_text, peer_text, row_fault, settings_fault, tables_text, top_text};
+ghost use Rattle.network_check.specs.Told.{shown};
+ghost use Rattle.network_check.specs.Faulty.{deny_text, element_text, faulty_text, first_line, header, label_at as called_at, line_at, link_text, parent_link_text, parent_text, parent_value_text, peer_text, row_fault, settings_fault, tables_text, top_text};
 
 use crate::faults::fault_words;
 use crate::fields::{DENIAL, ELEMENT, LINK, PARENT, PARENT_LINK, PEER, TOP};
 use crate::places::{Page, row_line, top_line};
-use crate::rows::{Rows, name_of, tell_rows, tell_table, value_at};
-use crate::told::{Piece, tell, write_pieces};
+use crate::rows::{Rows, label_of, tell_rows, tell_table, value_at};
+use crate::told::{Piece, tell, write_name, write_pieces};
 use dom_base::NoMemory;
 use plant_text::NetFault;
 use std::alloc::Global;
@@ -219,17 +222,39 @@ fn line_of_row(alloc: Global, text: &[u8], table: &[u8], index: usize) -> Result
     ))
 }
 
-// The name of a row.
-fn name_of_row<'a>(root: &'a Table, table: &str, index: usize) -> Option<&'a str>
-    ensures { option_map (λ s. s.now) result ≡ name_at (table_view root.now) table.now index }
+// The row at a place of a table.
+fn row_at<'a>(root: &'a Table, table: &str, index: usize) -> Option<&'a Value>
+    ensures { option_map (λ v. view v.now) result ≡ (get_member table.now (table_view root.now) >>= λ d. at index d) }
 {
     let Some(value) = value_at(root, table) else {
         return None;
     };
-    let Some(row) = value.get(index) else {
-        return None;
-    };
-    name_of(row)
+    value.get(index)
+}
+
+// What the row at a place of a table is called.
+fn label_at(
+    alloc: Global,
+    root: &Table,
+    table: &str,
+    index: usize,
+) -> Result<Vec<u8>, NoMemory>
+    ensures { IfOk result (λ label. label.items ≡ called_at (table_view root.now) table.now index) }
+{
+    let name = shown_name(alloc, table.as_bytes())?;
+    match row_at(root, table, index) {
+        Some(row) => label_of(alloc, &name, row),
+        None => Ok(name),
+    }
+}
+
+// A name, without what steers a terminal.
+fn shown_name(alloc: Global, name: &[u8]) -> Result<Vec<u8>, NoMemory>
+    ensures { IfOk result (λ word. word.items ≡ shown name.now) }
+{
+    let mut word = Vec::new(alloc);
+    write_name(name, &mut word)?;
+    Ok(word)
 }
 
 // A rule that a row breaks.
@@ -245,35 +270,14 @@ fn tell_row_fault<'x>(
     requires short { length (lines_of page.now.text.now) < 2 ^ 32 }
     ensures { OnOk result (into.new.items ≡ into.old.items ++ row_fault page.now.file.now page.now.text.now (table_view root.now) why.now table.now index) }
 {
-    let words = table.as_bytes();
-    let line = line_of_row(alloc, page.text, words, index as usize)?;
-    let number = u64::from(index);
-    match name_of_row(root, table, index as usize) {
-        Some(name) => tell(
-            page.file,
-            line,
-            &[
-                Piece::Text(why),
-                Piece::Name(words),
-                Piece::Text(b" "),
-                Piece::Number(number),
-                Piece::Text(b" "),
-                Piece::Name(name.as_bytes()),
-            ],
-            into,
-        ),
-        None => tell(
-            page.file,
-            line,
-            &[
-                Piece::Text(why),
-                Piece::Name(words),
-                Piece::Text(b" "),
-                Piece::Number(number),
-            ],
-            into,
-        ),
-    }
+    let line = line_of_row(alloc, page.text, table.as_bytes(), index as usize)?;
+    let label = label_at(alloc, root, table, index as usize)?;
+    tell(
+        page.file,
+        line,
+        &[Piece::Text(why), Piece::Text(&label)],
+        into,
+    )
 }
 
 // The fault that every command tells of the settings.
@@ -298,17 +302,18 @@ fn tell_fault(
             tell_row_fault(alloc, page, root, b"unknown ", table.as_str(), *i, into)
         }
         NetFault::NoParent(i) => {
-            tell_row_fault(alloc, page, root, b"no parent ", "element", *i, into)
+            tell_row_fault(alloc, page, root, b"no parent for ", "element", *i, into)
         }
-        NetFault::TooMany(table) => tell(
-            page.file,
-            0,
-            &[
-                Piece::Text(b"too many "),
-                Piece::Name(table.as_str().as_bytes()),
-            ],
-            into,
-        ),
+        NetFault::TooMany(table) => {
+            let name = table.as_str().as_bytes();
+            let line = line_of_row(alloc, page.text, name, 0)?;
+            tell(
+                page.file,
+                line,
+                &[Piece::Text(b"too many "), Piece::Name(name)],
+                into,
+            )
+        }
         other => tell(page.file, 0, &[Piece::Text(fault_words(other))], into),
     }
 }

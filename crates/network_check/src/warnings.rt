@@ -68,7 +68,7 @@ fn warn_of_topology(
         file,
         line,
         &[
-            Piece::Text(b"warning element "),
+            Piece::Text(b"warning element of domain "),
             Piece::Number(u64::from(element.own.0)),
             Piece::Text(b" has no topology"),
         ],
@@ -90,7 +90,7 @@ fn warn_of_link(
         file,
         line,
         &[
-            Piece::Text(b"warning element "),
+            Piece::Text(b"warning element of domain "),
             Piece::Number(u64::from(element.own.0)),
             Piece::Text(b" has no link"),
         ],

@@ -2,6 +2,7 @@
 use crate::steady::Told;
 use dom_base::{read_addr, read_number};
 use std::fmt;
+use std::str::from_utf8;
 
 /// What the program does, command by command.
 pub const HELP: &str = "\
@@ -88,6 +89,23 @@ pub(crate) fn say_help(rt: &HostRuntime, words: &[String]) {
         _ => {
             let _ = eprint!(rt; "{HELP}");
         }
+    }
+}
+
+/// Says on the standard error which file could not be read, where it was one.
+pub(crate) fn say_unread(rt: &HostRuntime, file: &[u8]) {
+    if file.is_empty() {
+        return;
+    }
+    if let Ok(name) = from_utf8(file) {
+        let _ = eprintln!(rt; "pce: can't read {}", Told(&name));
+    }
+}
+
+/// Says on the standard error what tells all faults of these settings.
+pub(crate) fn say_check(rt: &HostRuntime, settings: Option<&String>) {
+    if let Some(name) = settings {
+        let _ = eprintln!(rt; "pce: `pce check {}` tells each fault", Told(&name.as_str()));
     }
 }
 

@@ -9,12 +9,13 @@ mod progress;
 mod server;
 mod steady;
 
-use crate::help::{HELP, asks_for_help, say_help, say_what_is_wrong};
+use crate::help::{HELP, asks_for_help, say_check, say_help, say_unread, say_what_is_wrong};
 use crate::progress::Progress;
 use crate::server::{Ended, serve_network};
 use crate::steady::Told;
 use dom_edge::{FileStore, InputSource, OutputSink, write_all};
 use pce_tool::{Status, run};
+use plant_text::NetFault;
 use std::alloc::Global;
 use std::io::IsTerminal;
 use std::process::ExitCode;
@@ -79,26 +80,6 @@ fn enter_folder(rt: &HostRuntime, words: &mut [String]) -> Result<(), Status> {
     Ok(())
 }
 
-// Runs a command over the real files, input and output.
-fn run_command(rt: &HostRuntime, words: &mut [String]) -> Status {
-    if let Err(status) = enter_folder(rt, words) {
-        return status;
-    }
-    let alloc = rt.alloc();
-    let mut store = FileStore::new(alloc, *rt);
-    let mut input = InputSource::new(rt.reader());
-    let mut out = Progress::new(*rt, OutputSink::new(io::writer(rt)));
-    run(alloc, words, &mut store, &mut input, &mut out)
-}
-
-fn status_of(rt: &HostRuntime, words: &mut [String]) -> Status {
-    match &*words {
-        [word] if word.as_str() == "--help" => say(rt, HELP),
-        [word] if word.as_str() == "--version" => say(rt, VERSION),
-        _ => run_command(rt, words),
-    }
-}
-
 // Ends with a number, and where that is not 0, with a text on standard error.
 fn end<E: fmt::Display>(rt: &HostRuntime, number: u8, text: &E) -> ExitCode {
     if number != 0 {
@@ -107,28 +88,69 @@ fn end<E: fmt::Display>(rt: &HostRuntime, number: u8, text: &E) -> ExitCode {
     ExitCode::from(number)
 }
 
-// What is said behind a status: help where the words ask for it; and on a terminal which word is wrong, or what tells more of the files.
-fn say_more(rt: &HostRuntime, words: &[String], is_usage: bool, is_of_files: bool) {
-    if asks_for_help(words) {
-        say_help(rt, words);
-    } else if !rt.stderr().is_terminal() {} else if is_usage {
-        say_what_is_wrong(rt, words);
-    } else if is_of_files {
-        let _ = eprintln!(rt; "pce: `pce check` with these settings tells every fault");
+fn end_of(rt: &HostRuntime, status: Status) -> ExitCode {
+    end(rt, status.number(), &status)
+}
+
+// The file of the settings, as the words name it.
+fn typed_settings(rt: &HostRuntime, words: &[String]) -> Option<String> {
+    match words {
+        [verb, settings, ..] if takes_settings(verb.as_str()) => settings
+            .as_str()
+            .to_string(rt.alloc())
+            .ok(),
+        _ => None,
     }
 }
 
-// Whether a command over settings ended by a file of them.
-fn is_of_files(words: &[String], status: &Status) -> bool {
-    let [verb, ..] = words else {
+// Whether a command ended by a fault that `check` tells, too: one of the settings, or of a topology that they name.
+fn is_checked(words: &[String], status: &Status) -> bool {
+    let [verb, settings, ..] = words else {
         return false;
     };
     match status {
-        Status::BadNetwork { line, .. } => takes_settings(verb.as_str())
-            && (*line == 0 || verb.as_str() == "path"),
-        Status::ReadFault => verb.as_str() == "path",
+        Status::BadNetwork {
+            fault: NetFault::NoElement,
+            ..
+        } => false,
+        Status::BadNetwork { file, .. } => {
+            verb.as_str() == "path" || file.as_str() == settings.as_str()
+        }
         _ => false,
     }
+}
+
+// What is said behind a status: help where the words ask for it; which file can't be read; what tells more of the settings; and on a
+// terminal which word is wrong.
+fn say_more(rt: &HostRuntime, words: &[String], typed: Option<&String>, status: &Status, unread: &[u8]) {
+    if asks_for_help(words) {
+        say_help(rt, words);
+        return;
+    }
+    match status {
+        Status::Usage if rt.stderr().is_terminal() => say_what_is_wrong(rt, words),
+        Status::ReadFault => say_unread(rt, unread),
+        status if is_checked(words, status) => say_check(rt, typed),
+        _ => {}
+    }
+}
+
+// Runs a command over the real files, input and output.
+fn run_command(rt: &HostRuntime, words: &mut [String]) -> ExitCode {
+    let typed = typed_settings(rt, words);
+    if let Err(status) = enter_folder(rt, words) {
+        return end(rt, status.number(), &status);
+    }
+    let alloc = rt.alloc();
+    let mut store = FileStore::new(alloc, *rt);
+    let mut input = InputSource::new(rt.reader());
+    let mut out = Progress::new(*rt, OutputSink::new(io::writer(rt)));
+    let status = run(alloc, words, &mut store, &mut input, &mut out);
+    let code = end(rt, status.number(), &status);
+    if status.number() != 0 {
+        say_more(rt, words, typed.as_ref(), &status, store.failed_at());
+    }
+    code
 }
 
 // Serves a network, beside whose settings the files are that these and an operator name.
@@ -136,31 +158,34 @@ fn end_of_server<R>(rt: &HostRuntime, threads: R, words: &mut [String]) -> ExitC
 where
     R: Threads + Wait + Clock + Copy + Send + Drop + 'static,
 {
+    let typed = typed_settings(rt, words);
     if let Err(status) = enter_folder(rt, words) {
         return end(rt, status.number(), &status);
     }
+    let mut store = FileStore::new(rt.alloc(), *rt);
     let ended = match words {
-        [_verb, settings] => serve_network(rt, threads, settings.as_str()),
+        [_verb, settings] => serve_network(rt, threads, &mut store, settings.as_str()),
         _ => Ended::Usage,
     };
     let code = end(rt, ended.number(), &ended);
-    say_more(rt, words, false, ended.is_of_files());
+    if asks_for_help(words) {
+        say_help(rt, words);
+    } else if ended.is_unread() {
+        say_unread(rt, store.failed_at());
+    } else if ended.is_checked() {
+        say_check(rt, typed.as_ref());
+    }
     code
 }
 
 fn main(rt: HostRuntime) -> ExitCode {
     match words_of(&rt) {
-        Ok(mut words) if matches!(words.as_slice(), [verb, _] if verb.as_str() == "serve") =>
-            end_of_server(&rt, rt, &mut words),
-        Ok(mut words) => {
-            let status = status_of(&rt, &mut words);
-            let code = end(&rt, status.number(), &status);
-            if status.number() != 0 {
-                let is_usage = matches!(status, Status::Usage);
-                say_more(&rt, &words, is_usage, is_of_files(&words, &status));
-            }
-            code
-        }
-        Err(status) => end(&rt, status.number(), &status),
+        Ok(mut words) => match words.as_slice() {
+            [word] if word.as_str() == "--help" => end_of(&rt, say(&rt, HELP)),
+            [word] if word.as_str() == "--version" => end_of(&rt, say(&rt, VERSION)),
+            [verb, _] if verb.as_str() == "serve" => end_of_server(&rt, rt, &mut words),
+            _ => run_command(&rt, &mut words),
+        },
+        Err(status) => end_of(&rt, status),
     }
 }

@@ -1,4 +1,4 @@
-use Rattle.std.proofs.Common.{◌≡◌, ◌∙◌, true, false, arith}
+use Rattle.std.proofs.Common.{◌≡◌, ◌∙◌, true, false, arith, inr}
 use Rattle.plant_text.proofs.DocumentLaws.{document_is}
 use Rattle.network_check.proofs.documents.parse.Goals as goal
 
@@ -10,5 +10,5 @@ returns-in-Some c =
     let failed = c.in-Some.ensures in
     let within = c.in-Err.ensures.span in (
       document_is c.args.text.now c.utf8.text ∙ c.in-Err.ensures.refused (λ memory. absurd (let never : true ≡ false = failed.none.1 memory in cc)),
-      (c.in-Some.range.start, omega (arith, failed.range.0, within.0, within.1), rw c.as_bytes.ensures.value at c.line_of.ensures),
+      inr (c.utf8.text, (c.in-Some.range.start, omega (arith, failed.range.0, within.0, within.1), rw c.as_bytes.ensures.value at c.line_of.ensures)),
     )

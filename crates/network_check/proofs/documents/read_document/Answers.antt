@@ -1,8 +1,10 @@
-use Rattle.std.proofs.Common.{arith}
+use Rattle.std.proofs.Common.{◌∙◌, ap, inl}
 use Rattle.plant_text.proofs.DocumentLaws.{no_document}
+use Rattle.network_check.specs.Documents.{line_of_place}
 use Rattle.network_check.proofs.documents.read_document.Goals as goal
 
 pub returns-in-Err : goal.returns-in-Err
 returns-in-Err c =
-    let failed = c.in-Err.ensures.cases in
-    (no_document c.args.text.now failed.0, (c.valid_up_to.result, omega (arith, c.valid_up_to.ensures, failed.1.short), c.line_of.ensures))
+    let text = c.args.text.now in
+    let failed = c.in-Err.ensures in
+    (no_document text failed.cases.0, inl (failed.cases.0, c.line_of.ensures ∙ ap (line_of_place text) (c.valid_up_to.ensures ∙ failed.valid_len)))
