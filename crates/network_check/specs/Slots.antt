@@ -15,7 +15,7 @@ header_slots = slot.Domain ∷ []
 
 -- the places behind the first word of a row
 abbrev pub slots_of : RowKind → List Slot
-slots_of kinds.Node = slot.Node ∷ []
+slots_of kinds.Node = slot.Addr ∷ []
 slots_of kinds.Link = slot.From ∷ slot.To ∷ slot.Near ∷ slot.Far ∷ slot.Igp ∷ slot.Te ∷ slot.Bandwidth ∷ slot.Colour ∷ []
 slots_of kinds.Out = slot.From ∷ slot.Head ∷ slot.Near ∷ slot.Far ∷ slot.Domain ∷ slot.Igp ∷ slot.Te ∷ slot.Bandwidth ∷ slot.Colour ∷ []
 slots_of kinds.Entry = slot.Node ∷ slot.Domain ∷ []
@@ -23,6 +23,7 @@ slots_of kinds.Entry = slot.Node ∷ slot.Domain ∷ []
 -- ---- a place
 
 abbrev pub slot_name : Slot → List ℕ
+slot_name slot.Addr = codes "ADDR"
 slot_name slot.Node = codes "NODE"
 slot_name slot.From = codes "FROM"
 slot_name slot.To = codes "TO"
@@ -44,6 +45,7 @@ is_number_word most word = is_some (number_in most word)
 
 -- the word may stand there
 abbrev pub is_slot : Slot → List ℕ → Bool
+is_slot slot.Addr word = is_address_word word
 is_slot slot.Node word = is_address_word word
 is_slot slot.From word = is_address_word word
 is_slot slot.To word = is_address_word word
@@ -59,6 +61,7 @@ is_slot slot.Group word = is_number_word (2 ^ 32 - 1) word
 
 -- what may stand there, in words
 abbrev pub slot_allowed : Slot → List ℕ
+slot_allowed slot.Addr = codes "an address"
 slot_allowed slot.Node = codes "an address"
 slot_allowed slot.From = codes "an address"
 slot_allowed slot.To = codes "an address"

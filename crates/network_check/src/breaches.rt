@@ -76,11 +76,7 @@ fn is_last(fault: &NetFault) -> bool
 }
 
 // Notes a fault, leaves it out of the text, and tells whether no other is behind it.
-fn note(
-    text: &mut Vec<u8>,
-    breaches: &mut List<Breach>,
-    breach: Breach,
-) -> Result<bool, NoMemory>
+fn note(text: &mut Vec<u8>, breaches: &mut List<Breach>, breach: Breach) -> Result<bool, NoMemory>
     ensures text { OnOk result (text.new.items ≡ left_behind breach text.old.items) }
     ensures noted { OnOk result (breaches.new ≡ breaches.old ++ breach ∷ []) }
     ensures last { IfOk result (λ is. is ≡ ends_all breach.fault) }

@@ -193,7 +193,12 @@ fn warn_of_lines(
 fn tell_breach(file: &[u8], breach: &Breach, into: &mut Vec<u8>) -> Result<(), NoMemory>
     ensures { OnOk result (into.new.items ≡ into.old.items ++ breach_text file.now breach.now) }
 {
-    tell(file, breach.line, &[Piece::Text(fault_words(&breach.fault))], into)
+    tell(
+        file,
+        breach.line,
+        &[Piece::Text(fault_words(&breach.fault))],
+        into,
+    )
 }
 
 fn tell_breaches(file: &[u8], breaches: &[Breach], into: &mut Vec<u8>) -> Result<(), NoMemory>

@@ -2,14 +2,14 @@
 ghost use Rattle.std.specs.Prelude.{◌≡◌, ◌++◌, ◌<◌, ◌^◌, ◌∷◌, IfOk, OnOk, length};
 ghost use Rattle.std.specs.Str.Lines.{lines as lines_of};
 ghost use Rattle.line_text.specs.Lines.{told_lines};
-ghost use Rattle.te_text.specs.Reading.{begins_topology as begins_header};
+ghost use Rattle.te_text.specs.Reading.{begins_topology as begins_header, own_behind};
 ghost use Rattle.te_text.specs.RowText.{kind_in};
 ghost use Rattle.line_text.specs.Words.{all_words};
-ghost use Rattle.network_check.specs.Forms.{blank_text, extra_text, form_text, has_groups as may_have_groups, header_text, is_header as says_domain, is_row as says_row, kind_text, missing_text, no_header_text, own_text, plain_text, rest_text, row_text, rows_text, slots_text, words_text, wrong_text};
+ghost use Rattle.network_check.specs.Forms.{blank_text, extra_text, form_text, header_text, is_header as says_domain, is_row as says_row, kind_text, missing_text, no_header_text, own_text, plain_text, rest_text, row_text, rows_text, slots_text, words_text, wrong_text};
 
-use crate::slots::{Slot, allowed_at, is_slot, name_of, slots_of, slots_of_header};
+use crate::slots::{ENTRY, HEADER, LINK, NODE, OUT, Slot, allowed_at, is_slot, name_of};
 use crate::told::{Piece, tell};
-use dom_base::NoMemory;
+use dom_base::{As, NoMemory};
 use line_text::{Line, Lines, Words, is_trimmed};
 use std::alloc::Global;
 use te_links::RowKind;
@@ -41,12 +41,7 @@ fn tell_wrong(
     )
 }
 
-fn tell_missing(
-    file: &[u8],
-    line: u32,
-    slot: Slot,
-    into: &mut Vec<u8>,
-) -> Result<(), NoMemory>
+fn tell_missing(file: &[u8], line: u32, slot: Slot, into: &mut Vec<u8>) -> Result<(), NoMemory>
     ensures { OnOk result (into.new.items ≡ into.old.items ++ missing_text file.now line slot) }
 {
     tell(
@@ -68,10 +63,7 @@ fn tell_extra(file: &[u8], line: u32, word: &[u8], into: &mut Vec<u8>) -> Result
     tell(
         file,
         line,
-        &[
-            Piece::Text(b"syntax: a word too many: "),
-            Piece::Name(word),
-        ],
+        &[Piece::Text(b"syntax: a word too many: "), Piece::Name(word)],
         into,
     )
 }
@@ -85,8 +77,12 @@ fn tell_plain(file: &[u8], line: u32, into: &mut Vec<u8>) -> Result<(), NoMemory
 fn tell_blank(file: &[u8], line: u32, into: &mut Vec<u8>) -> Result<(), NoMemory>
     ensures { OnOk result (into.new.items ≡ into.old.items ++ blank_text file.now line) }
 {
-    let words = b"syntax: a blank before the first word or behind the last";
-    tell(file, line, &[Piece::Text(words)], into)
+    tell(
+        file,
+        line,
+        &[Piece::Text(b"syntax: a blank before the first word or behind the last")],
+        into,
+    )
 }
 
 // The words behind the places of a row.
@@ -150,15 +146,6 @@ fn kind_of(word: &[u8]) -> Option<RowKind>
     }
 }
 
-fn has_groups(kind: RowKind) -> bool
-    ensures { result ≡ may_have_groups kind }
-{
-    match kind {
-        RowKind::Node | RowKind::Entry => false,
-        RowKind::Link | RowKind::Out => true,
-    }
-}
-
 // The words behind the first.
 fn tell_kind(
     file: &[u8],
@@ -170,7 +157,10 @@ fn tell_kind(
     ensures { OnOk result (into.new.items ≡ into.old.items ++ kind_text file.now line word.now words.old (kind_in word.now)) }
 {
     match kind_of(word) {
-        Some(kind) => tell_slots(file, line, has_groups(kind), slots_of(kind), words, into),
+        Some(RowKind::Node) => tell_slots(file, line, false, &NODE, words, into),
+        Some(RowKind::Link) => tell_slots(file, line, true, &LINK, words, into),
+        Some(RowKind::Out) => tell_slots(file, line, true, &OUT, words, into),
+        Some(RowKind::Entry) => tell_slots(file, line, false, &ENTRY, words, into),
         None => tell(
             file,
             line,
@@ -210,12 +200,7 @@ fn is_row(alloc: Global, text: &[u8]) -> Result<bool, NoMemory>
     }
 }
 
-fn tell_row(
-    alloc: Global,
-    file: &[u8],
-    line: &Line<'_>,
-    into: &mut Vec<u8>,
-) -> Result<(), NoMemory>
+fn tell_row(alloc: Global, file: &[u8], line: &Line<'_>, into: &mut Vec<u8>) -> Result<(), NoMemory>
     ensures { OnOk result (into.new.items ≡ into.old.items ++ row_text file.now (record { number = line.now.number; text = line.now.text.now })) }
 {
     if is_row(alloc, line.text)? {
@@ -233,13 +218,22 @@ fn tell_row(
 fn begins_topology(text: &[u8]) -> bool
     ensures { result ≡ begins_header (all_words text.now) }
 {
-    match Words::new(text).next_word() {
+    let mut words = Words::new(text);
+    match words.next_word() {
         Some(word) => word == b"topology".as_slice(),
         None => false,
     }
 }
 
+// The number of the domain, behind the first word of a header.
 #[tactic(auto, unfolding(te_text::specs::Reading::own_behind))]
+fn own_of(words: &mut Words<'_>) -> Option<As>
+    ensures { result ≡ own_behind words.old }
+{
+    let own = next_as(words)?;
+    if is_end(words) { Some(own) } else { None }
+}
+
 fn is_header(text: &[u8]) -> bool
     ensures { result ≡ says_domain text.now }
 {
@@ -247,10 +241,10 @@ fn is_header(text: &[u8]) -> bool
         return false;
     }
     let mut words = Words::new(text);
-    match words.next_word() {
-        Some(_name) => next_as(&mut words).is_some() && is_end(&mut words),
-        None => false,
-    }
+    let Some(_name) = words.next_word() else {
+        return false;
+    };
+    own_of(&mut words).is_some()
 }
 
 // The words behind `topology`.
@@ -260,7 +254,7 @@ fn tell_own(file: &[u8], line: &Line<'_>, into: &mut Vec<u8>) -> Result<(), NoMe
     if is_trimmed(line.text) {
         let mut words = Words::new(line.text);
         let _name = words.next_word();
-        tell_slots(file, line.number, false, slots_of_header(), &mut words, into)
+        tell_slots(file, line.number, false, &HEADER, &mut words, into)
     } else {
         tell_blank(file, line.number, into)
     }

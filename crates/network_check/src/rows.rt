@@ -302,7 +302,10 @@ fn write_label<'x>(
         }
         None => match domain {
             Some(number) => {
-                write_pieces(&[text, Piece::Text(b" of domain "), Piece::Number(number)], into)
+                write_pieces(
+                    &[text, Piece::Text(b" of domain "), Piece::Number(number)],
+                    into,
+                )
             }
             None => write_pieces(&[text], into),
         },

@@ -233,12 +233,7 @@ fn row_at<'a>(root: &'a Table, table: &str, index: usize) -> Option<&'a Value>
 }
 
 // What the row at a place of a table is called.
-fn label_at(
-    alloc: Global,
-    root: &Table,
-    table: &str,
-    index: usize,
-) -> Result<Vec<u8>, NoMemory>
+fn label_at(alloc: Global, root: &Table, table: &str, index: usize) -> Result<Vec<u8>, NoMemory>
     ensures { IfOk result (λ label. label.items ≡ called_at (table_view root.now) table.now index) }
 {
     let name = shown_name(alloc, table.as_bytes())?;

@@ -1,14 +1,14 @@
 //! The places of a row of a topology: what each is called, and what may stand there.
 ghost use Rattle.std.specs.Prelude.{◌≡◌, is_some};
 ghost use Rattle.dom_base.specs.Numerals.{colour_in};
-ghost use Rattle.network_check.specs.Slots.{header_slots, is_address_word, is_number_word, is_slot as may_stand, slot_allowed, slot_name, slots_of as places_of};
+ghost use Rattle.network_check.specs.Slots.{is_address_word, is_number_word, is_slot as may_stand, slot_allowed, slot_name};
 
 use dom_base::{read_addr, read_colour, read_number};
-use te_links::RowKind;
 
 /// A place of a row.
 #[derive(Clone, Copy)]
 pub enum Slot {
+    Addr,
     Node,
     From,
     To,
@@ -27,9 +27,10 @@ pub enum Slot {
 /// The places behind `topology`.
 pub(crate) const HEADER: [Slot; 1] = [Slot::Domain];
 
-const NODE: [Slot; 1] = [Slot::Node];
+/// The places behind `node`; behind `link`, `out` and `entry`.
+pub(crate) const NODE: [Slot; 1] = [Slot::Addr];
 
-const LINK: [Slot; 8] = [
+pub(crate) const LINK: [Slot; 8] = [
     Slot::From,
     Slot::To,
     Slot::Near,
@@ -40,7 +41,7 @@ const LINK: [Slot; 8] = [
     Slot::Colour,
 ];
 
-const OUT: [Slot; 9] = [
+pub(crate) const OUT: [Slot; 9] = [
     Slot::From,
     Slot::Head,
     Slot::Near,
@@ -52,32 +53,14 @@ const OUT: [Slot; 9] = [
     Slot::Colour,
 ];
 
-const ENTRY: [Slot; 2] = [Slot::Node, Slot::Domain];
-
-/// The places behind `topology`.
-pub(crate) fn slots_of_header() -> &'static [Slot]
-    ensures { result.now ≡ header_slots }
-{
-    &HEADER
-}
-
-/// The places behind the first word of a row.
-pub(crate) fn slots_of(kind: RowKind) -> &'static [Slot]
-    ensures { result.now ≡ places_of kind }
-{
-    match kind {
-        RowKind::Node => &NODE,
-        RowKind::Link => &LINK,
-        RowKind::Out => &OUT,
-        RowKind::Entry => &ENTRY,
-    }
-}
+pub(crate) const ENTRY: [Slot; 2] = [Slot::Node, Slot::Domain];
 
 /// What a place is called.
 pub(crate) fn name_of(slot: Slot) -> &'static [u8]
     ensures { result.now ≡ slot_name slot }
 {
     match slot {
+        Slot::Addr => b"ADDR",
         Slot::Node => b"NODE",
         Slot::From => b"FROM",
         Slot::To => b"TO",
@@ -116,7 +99,8 @@ pub(crate) fn is_slot(slot: Slot, word: &[u8]) -> bool
     ensures { result ≡ may_stand slot word.now }
 {
     match slot {
-        Slot::Node | Slot::From | Slot::To | Slot::Head | Slot::Near | Slot::Far => is_address(word),
+        Slot::Addr | Slot::Node | Slot::From | Slot::To | Slot::Head | Slot::Near | Slot::Far =>
+            is_address(word),
         Slot::Domain => is_number(word, u64::from(u16::MAX)),
         Slot::Igp | Slot::Te | Slot::Group => is_number(word, u64::from(u32::MAX)),
         Slot::Bandwidth => is_number(word, u64::MAX),
@@ -129,7 +113,8 @@ pub(crate) fn allowed_at(slot: Slot) -> &'static [u8]
     ensures { result.now ≡ slot_allowed slot }
 {
     match slot {
-        Slot::Node | Slot::From | Slot::To | Slot::Head | Slot::Near | Slot::Far => b"an address",
+        Slot::Addr | Slot::Node | Slot::From | Slot::To | Slot::Head | Slot::Near | Slot::Far =>
+            b"an address",
         Slot::Domain => b"a number up to 65535",
         Slot::Igp | Slot::Te | Slot::Group => b"a number up to 4294967295",
         Slot::Bandwidth => b"a number up to 18446744073709551615",
