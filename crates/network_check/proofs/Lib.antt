@@ -7,3 +7,4 @@ pub mod Placing
 pub mod Reading
 pub mod Steps
 pub mod Shortness
+pub mod Wording

@@ -12,6 +12,10 @@ use Rattle.network_files.specs.Topologies.{topology_max}
 use Rattle.network_check.specs.declared.breaches.Breach.{Breach}
 use Rattle.network_check.specs.Breaches.{AreBreaches, IsRefused, breaches_max, commented, is_last, left_by, passed_all, passed_over, place_behind}
 
+pub none_behind : (text : List ℕ) → place_behind 0 text ≡ 0
+none_behind [] = refl
+none_behind (c ∷ cs) = refl
+
 passed_push : (text : List ℕ) (bs : List Breach) (b : Breach) → passed_all text (bs ++ b ∷ []) ≡ passed_over b (passed_all text bs)
 passed_push text [] b = refl
 passed_push text (c ∷ bs) b = passed_push (passed_over c text) bs b

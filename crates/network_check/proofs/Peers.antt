@@ -1,5 +1,5 @@
 -- What is told of elements and of peers, one behind the other.
-use Rattle.std.proofs.Common.{◌≡◌, ◌∙◌, ◌+◌, ◌<◌, ℕ, List, [], ◌∷◌, ◌++◌, length, take, drop, get_or, Option, ap, sym, arith}
+use Rattle.std.proofs.Common.{◌≡◌, ◌∙◌, ◌+◌, ◌<◌, ℕ, List, [], ◌∷◌, ◌++◌, length, take, drop, get_or, Option, Some, None, is_some, is_none, Bool, true, false, not, refl, ap, sym, arith}
 use Rattle.std.proofs.lemmas.List.{drop_more, length-take-le, take_more}
 use Rattle.plant_text.specs.declared.settings.ElementRow.{ElementRow}
 use Rattle.plant_text.specs.declared.settings.NetworkParts.{NetworkParts}
@@ -22,3 +22,10 @@ peers_next file text watch peers i p lt is =
     ap (λ (ps : List PeerRow). peers_warnings file text watch (take i peers) ps) (row_next peers i p lt is)
     ∙ ap (λ (n : ℕ). peer_warnings file text watch n (take i peers) p ++ peers_warnings file text watch (take i peers ++ p ∷ []) (drop (i + 1) peers)) count
     ∙ ap (λ (ps : List PeerRow). peer_warnings file text watch i (take i peers) p ++ peers_warnings file text watch ps (drop (i + 1) peers)) (sym more)
+
+-- a value that is told not to be there
+pub none_is : {X : Type 0} (o : Option X) (r : Bool) → is_some o ≡ not r → r ≡ is_none o
+none_is None true is = refl
+none_is None false is = absurd (let never : false ≡ true = is in cc)
+none_is (Some x) true is = absurd (let never : true ≡ false = is in cc)
+none_is (Some x) false is = refl

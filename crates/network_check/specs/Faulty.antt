@@ -108,8 +108,12 @@ abbrev pub label_or : List ℕ → Option Data → List ℕ
 label_or name None = shown name
 label_or name (Some d) = label_of (shown name) d
 
+-- the row at a place of a table
+abbrev pub row_at : Members → List ℕ → ℕ → Option Data
+row_at root name i = get_member name root >>= λ d. at i d
+
 abbrev pub label_at : Members → List ℕ → ℕ → List ℕ
-label_at root name i = label_or name (get_member name root >>= λ d. at i d)
+label_at root name i = label_or name (row_at root name i)
 
 abbrev pub row_fault : List ℕ → List ℕ → Members → List ℕ → List ℕ → ℕ → List ℕ
 row_fault file text root why name i = told file (line_at text name i) (joined (why ∷ label_at root name i ∷ []))

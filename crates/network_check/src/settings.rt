@@ -1,11 +1,9 @@
 //! What is told of settings that are at fault: the fault, and each key that lacks, is not known, or has a value that it may not have.
 ghost use Rattle.std.specs.Prelude.{◌≡◌, ◌++◌, ◌<◌, ◌^◌, IfOk, OnOk, length, option_map};
 ghost use Rattle.std.specs.Str.Lines.{lines as lines_of};
-ghost use Rattle.dom_base.specs.Steps.{◌>>=◌};
-ghost use Rattle.toml.specs.Data.{at, get_member};
 ghost use Rattle.toml.specs.View.{table_view, view};
 ghost use Rattle.network_check.specs.Told.{shown};
-ghost use Rattle.network_check.specs.Faulty.{deny_text, element_text, faulty_text, first_line, header, label_at as called_at, line_at, link_text, parent_link_text, parent_text, parent_value_text, peer_text, row_fault, settings_fault, tables_text, top_text};
+ghost use Rattle.network_check.specs.Faulty.{deny_text, element_text, faulty_text, first_line, header, label_at as called_at, line_at, link_text, parent_link_text, parent_text, parent_value_text, peer_text, row_at as row_in_table, row_fault, settings_fault, tables_text, top_text};
 
 use crate::faults::fault_words;
 use crate::fields::{DENIAL, ELEMENT, LINK, PARENT, PARENT_LINK, PEER, TOP};
@@ -224,7 +222,7 @@ fn line_of_row(alloc: Global, text: &[u8], table: &[u8], index: usize) -> Result
 
 // The row at a place of a table.
 fn row_at<'a>(root: &'a Table, table: &str, index: usize) -> Option<&'a Value>
-    ensures { option_map (λ v. view v.now) result ≡ (get_member table.now (table_view root.now) >>= λ d. at index d) }
+    ensures { option_map (λ v. view v.now) result ≡ row_in_table (table_view root.now) table.now index }
 {
     let Some(value) = value_at(root, table) else {
         return None;
