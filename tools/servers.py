@@ -55,6 +55,12 @@ def bound_to_parent():
     signal.signal(signal.SIGINT, signal.SIG_DFL)
 
 
+def freeze(process):
+    """Stops a process that this one started, and returns once all its threads stand still: on a busy machine they go on for a while behind the signal."""
+    process.send_signal(signal.SIGSTOP)
+    os.waitid(os.P_PID, process.pid, os.WSTOPPED | os.WEXITED | os.WNOWAIT)
+
+
 class Lines:
     """The lines of a stream, as they come."""
 

@@ -1,5 +1,5 @@
 -- A job that is solved by given rows.
-use Rattle.std.proofs.Common.{◌≡◌, ◌∙◌, ℕ, Bool, true, false, cond, nat_eq, Option, Some, None, List, [], refl, sym, ap, subst, option_map}
+use Rattle.std.proofs.Common.{◌≡◌, ◌∙◌, ℕ, true, false, nat_eq, Option, Some, None, List, [], refl, sym, ap, subst, option_map}
 use Rattle.std.specs.Prelude.{All, IfSome}
 use Rattle.std.specs.Map.{lookup}
 use Rattle.std.proofs.lemmas.List.Elements.{All-nil}

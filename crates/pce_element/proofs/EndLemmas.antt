@@ -1,15 +1,18 @@
 -- Requests that end one after the other, step by step.
-use Rattle.std.proofs.Common.{◌≡◌, ◌∙◌, ℕ, Option, Some, None, List, [], ◌∷◌, ◌++◌, Result, Ok, Err, OnOk, sym, ap, append_assoc}
+use Rattle.std.proofs.Common.{◌≡◌, ◌∙◌, ℕ, Bool, cond, Option, Some, None, List, [], ◌∷◌, ◌++◌, Result, Ok, Err, OnOk, sym, ap, append_assoc}
 use Rattle.std.specs.Prelude.{IfOk}
 use Rattle.std.proofs.lemmas.List.{append-nil}
-use Rattle.pce_common.specs.plant_model.Types.{Peer, Message}
+use Rattle.pcep_codes.specs.declared.notices.TheConstants as notices
+use Rattle.pce_common.specs.declared.reported.Told.{Told}
+use Rattle.pce_common.specs.plant_model.Types.{Message, Notice, Peer}
+use Rattle.pce_common.specs.plant_model.Names.{has_pair}
 use Rattle.request_table.specs.Pending.{number_of}
 use Rattle.pce_common.specs.plant_model.declared.output.Output.{Output}
 use Rattle.pce_common.specs.plant_model.Element.{Element, Row, Taken, each, ended, silent, waiting}
-use Rattle.pce_common.specs.plant_model.Taking.{answered, cancelled, error_answer, take_busy, take_cancel, take_failure, told_busy, told_error}
+use Rattle.pce_common.specs.plant_model.Taking.{answered, cancelled, error_answer, take_busy, take_cancel, take_failure, take_notice, told_busy, told_error}
 use Rattle.pce_common.specs.plant_model.Writing.{busy}
 use Rattle.pce_element.specs.Changes.{all_closed, all_ended}
-use Rattle.pce_element.specs.Endings.{after, failing, reached}
+use Rattle.pce_element.specs.Endings.{after, failing, reached, steps_of}
 use Rattle.pce_element.specs.declared.telling.Ending.{Ending}
 use Rattle.pce_element.proofs.CloseLemmas.{all_closed-more}
 
@@ -37,6 +40,17 @@ after_each {P} {S} t f x xs =
 
 pub after_none : {P : Type 0} {S : Type 0} → (t : Taken P S) → after t silent ≡ t
 after_none {P} {S} t = ap (λ (os : List Output). let u : Taken P S = record { element = t.element; outputs = os } in u) (append-nil t.outputs)
+
+-- ---- what a notice tells
+
+pub told_in : {P : Type 0} {S : Type 0} → (t : Taken P S) (p : Peer) (n : Notice) (told : Told) → told.busy ≡ has_pair notices.BUSY.0 notices.BUSY.1 n.kinds → told.cancelled ≡ has_pair notices.CANCELLED.0 notices.CANCELLED.1 n.kinds →
+    after t (each (λ rp. each (λ step. step p rp) (steps_of told)) n.ids) ≡ after t (take_notice p n)
+told_in {P} {S} t p n told busy cancels =
+    ap (λ (b : Bool). by_steps (cond b (cond told.cancelled (take_busy ∷ take_cancel ∷ []) (take_busy ∷ [])) (cond told.cancelled (take_cancel ∷ []) []))) busy
+    ∙ ap (λ (b : Bool). by_steps (cond (has_pair notices.BUSY.0 notices.BUSY.1 n.kinds) (cond b (take_busy ∷ take_cancel ∷ []) (take_busy ∷ [])) (cond b (take_cancel ∷ []) []))) cancels
+  where
+    by_steps : List (Peer → ℕ × ℕ → Element P S → Taken P S) → Taken P S
+    by_steps steps = after t (each (λ rp. each (λ step. step p rp) steps) n.ids)
 
 -- ---- what one step makes
 

@@ -1,20 +1,23 @@
 -- The request that waits for the answer to an id, found by who is said to wait.
-use Rattle.std.proofs.Common.{◌≡◌, ◌∙◌, ◌==◌, ◌×◌, ℕ, Bool, true, false, cond, nat_eq, Option, Some, None, List, [], ◌∷◌, refl, sym, ap, subst}
+use Rattle.std.proofs.Common.{◌≡◌, ◌∙◌, ◌==◌, ℕ, Bool, true, false, cond, nat_eq, Option, Some, None, List, [], ◌∷◌, refl, sym, ap, subst}
 use Rattle.std.specs.Prelude.{MatchOption, filter, slice_get}
 use Rattle.std.specs.Map.{lookup}
 use Rattle.pce_common.specs.plant_model.Types.{Peer, Held}
 use Rattle.request_table.specs.Pending.{NumbersRise, Pending, same_peer}
 use Rattle.pce_common.specs.plant_model.Element.{Item, Row, Stage, Waits, Ready, waiting, waits_for}
 use Rattle.pce_common.specs.plant_model.Plant.{has_number}
-use Rattle.pce_common.specs.Waiting.{IsSaidOf, numbers_waiting}
-use Rattle.pce_common.specs.declared.waiters.Waiter.TheVariants.{One, Several}
+use Rattle.pce_common.specs.Waiting.{AreSaidOf, IsSaidOf, numbers_waiting, waiter_at}
+use Rattle.pce_common.specs.declared.waiters.Waiter.{Waiter}
+use Rattle.pce_common.specs.declared.waiters.Waiter.TheVariants.{One}
+use Rattle.pce_common.specs.declared.waiters.Waiters.{Waiters}
 use Rattle.pce_common.proofs.HeldRows.{in_found}
 use Rattle.pce_common.proofs.WaiterLemmas.{IsFirstLeft, not_ended, nobody_waits, one_has_ended, one_waits}
 use Rattle.pce_element.specs.Changes.{all_closed}
 use Rattle.pce_element.specs.Items.{id_sent_to}
 use Rattle.pce_element.specs.Rows.{row_of}
-use Rattle.pce_element.specs.Tellers.{waits_under}
+use Rattle.pce_element.specs.Tellers.{AreGathered, Knows, waits_under}
 use Rattle.pce_element.specs.declared.pinned.Row as pinned
+use Rattle.pce_element.specs.declared.tellers.Teller.{Teller}
 use Rattle.pce_element.proofs.SearchLemmas.{closed_rows}
 
 -- ---- the id for whose answer a request waits
@@ -34,6 +37,14 @@ waits_for_none p (Waits on x) is id = go (same_peer on p) is
     go true is = absurd (let no : Some x ≡ None = is in cc)
     go false is = refl
 waits_for_none p (Ready branches) is id = refl
+
+-- ---- what was gathered
+
+pub said_at : {P : Type 0} → (rows : List (Row P)) (teller : Teller) (waiters : Waiters) (id : ℕ) (o : Option Waiter) → Knows rows teller → teller.waiters ≡ Some waiters → o ≡ waiter_at waiters id →
+    IsSaidOf (numbers_waiting (waits_under teller.peer) rows id) o
+said_at rows teller waiters id o knows is said =
+    let gathered : AreSaidOf (numbers_waiting (waits_under teller.peer) rows) waiters = subst (AreGathered teller.peer rows) is knows in
+    subst (IsSaidOf (numbers_waiting (waits_under teller.peer) rows id)) (sym said) (gathered id)
 
 -- ---- the first that waits
 

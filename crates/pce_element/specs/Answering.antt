@@ -1,5 +1,5 @@
 -- The answer to a request that can be solved, by the best ways that were found.
-use Rattle.std.specs.Prelude.{◌≡◌, ℕ, Bool, List, [], ◌∷◌, ◌++◌, map}
+use Rattle.std.specs.Prelude.{◌≡◌, ℕ, Bool, List, [], ◌∷◌, ◌++◌}
 use Rattle.pce_common.specs.plant_model.Types.{Addr, Metric, Hop, Path, Answer, Best, Branch}
 use Rattle.pcep_messages.specs.declared.message.Answer.TheVariants.{Paths}
 use Rattle.path_keys.specs.Keys.{number_after}

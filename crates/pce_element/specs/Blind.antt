@@ -1,5 +1,5 @@
 -- A job of an element without topologies, which is solved by given rows.
-use Rattle.std.specs.Prelude.{◌≡◌, ◌⊎◌, ℕ, true, nat_eq, List, length, Option, Some, None}
+use Rattle.std.specs.Prelude.{◌≡◌, ℕ, true, nat_eq, List, length, Some}
 use Rattle.std.specs.Map.{lookup}
 use Rattle.pce_common.specs.plant_model.Types.{BorderRow, Held, Best, Branch, NetworkParts}
 use Rattle.request_table.specs.Pending.{item_of}

@@ -42,6 +42,7 @@ impl<W: World> PinnedRequests<W> {
         requires { Knows self.now.pending.rows teller.now }
         ensures { MatchOption result (waiting teller.now.peer id (all_closed ended.now self.now.pending).rows ≡ None) (λ row. waiting teller.now.peer id (all_closed ended.now self.now.pending).rows ≡ Some (row_of row)) }
     {
+        let _count = self.len();
         let Some(waiters) = &teller.waiters else {
             return self.waiting(ended.as_slice(), teller.peer, id);
         };

@@ -1,8 +1,7 @@
 -- The request that waits for the answer to an id, found by who is said to wait.
-use Rattle.std.proofs.Common.{◌≡◌, ◌∙◌, ◌==◌, ◌+◌, ℕ, suc, Bool, true, false, cond, nat_eq, Option, Some, None, List, [], ◌∷◌, ◌++◌, take, arith, inl, inr, refl, sym, ap, subst}
+use Rattle.std.proofs.Common.{◌≡◌, ◌∙◌, ◌==◌, ◌+◌, ℕ, suc, Bool, true, false, cond, nat_eq, Option, Some, None, List, [], ◌∷◌, ◌++◌, take, arith, refl, sym, ap, subst}
 use Rattle.std.specs.Prelude.{MatchOption, filter, slice_get}
 use Rattle.std.specs.Map.{lookup}
-use Rattle.std.proofs.lemmas.Bool.{cases_Bool, eqb-true}
 use Rattle.std.proofs.lemmas.List.{append-nil}
 use Rattle.pce_common.specs.plant_model.Types.{Peer, Held}
 use Rattle.request_table.specs.Pending.{ArePending, Pending, same_peer}
@@ -11,7 +10,7 @@ use Rattle.pce_common.specs.plant_model.Parent.{Asking, AskingRow, Wait, among}
 use Rattle.pce_common.specs.plant_model.Plant.{has_number}
 use Rattle.pce_common.specs.Waiting.{AreSaidOf, IsSaidOf, numbers_waiting, one_more, waiter_at}
 use Rattle.pce_common.specs.declared.waiters.Waiter.{Waiter}
-use Rattle.pce_common.specs.declared.waiters.Waiter.TheVariants.{One, Several}
+use Rattle.pce_common.specs.declared.waiters.Waiter.TheVariants.{One}
 use Rattle.pce_common.specs.declared.waiters.Waiters.{Waiters}
 use Rattle.pce_common.proofs.HeldPlaces.{taken_at}
 use Rattle.pce_common.proofs.HeldRows.{in_found}
@@ -20,7 +19,8 @@ use Rattle.pce_parent.specs.declared.pending.Row as pending
 use Rattle.pce_parent.specs.declared.sought.Sought.TheVariants.{Awaited}
 use Rattle.pce_parent.specs.Pendings.{row_of}
 use Rattle.pce_parent.specs.Soughts.{first_sought, without_these}
-use Rattle.pce_parent.specs.Tellers.{waits_under}
+use Rattle.pce_parent.specs.declared.tellers.Teller.{Teller}
+use Rattle.pce_parent.specs.Tellers.{AreGathered, Knows, waits_under}
 
 -- ---- the waits of one request
 
@@ -41,7 +41,7 @@ among_next p ws k w id at =
     ap (λ (j : ℕ). among p (take j ws) id) (let e : k + 1 ≡ suc k = omega arith in e) ∙ ap (λ (vs : List Wait). among p vs id) (taken_at ws k w at) ∙ among_more p (take k ws) w id
 
 -- before these waits, and with the request where one of them is for the id
-abbrev with_waits : Peer → ℕ → List Wait → (ℕ → List ℕ) → ℕ → List ℕ
+abbrev pub with_waits : Peer → ℕ → List Wait → (ℕ → List ℕ) → ℕ → List ℕ
 with_waits p n ws before id = before id ++ cond (among p ws id) (n ∷ []) []
 
 pub no_waits : (p : Peer) (n : ℕ) (ws : List Wait) (before : ℕ → List ℕ) (waiters : Waiters) → AreSaidOf before waiters → AreSaidOf (with_waits p n (take 0 ws) before) waiters
@@ -70,6 +70,13 @@ module _ (p : Peer) (n : ℕ) (ws : List Wait) (k : ℕ) (w : Wait) (at : slice_
       go true false is = is
       go false true is = said_more (before id) n (waiter_at old id) (said_by _ _ _ _ (sym (append-nil (before id))) refl is)
       go false false is = is
+
+-- ---- what was gathered
+
+pub said_at : (rows : List AskingRow) (teller : Teller) (waiters : Waiters) (id : ℕ) (o : Option Waiter) → Knows rows teller → teller.waiters ≡ Some waiters → o ≡ waiter_at waiters id → IsSaidOf (numbers_waiting (waits_under teller.peer) rows id) o
+said_at rows teller waiters id o knows is said =
+    let gathered : AreSaidOf (numbers_waiting (waits_under teller.peer) rows) waiters = subst (AreGathered teller.peer rows) is knows in
+    subst (IsSaidOf (numbers_waiting (waits_under teller.peer) rows id)) (sym said) (gathered id)
 
 -- ---- the first that waits
 

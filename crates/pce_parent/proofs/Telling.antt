@@ -1,15 +1,18 @@
 -- What notices and errors make of requests, one by one.
-use Rattle.std.proofs.Common.{◌≡◌, ℕ, Option, Some, None, List, [], ◌∷◌, ◌++◌, sym, ◌∙◌, ap, append-nil, option_map}
-use Rattle.pce_common.specs.plant_model.Types.{Peer, Message}
+use Rattle.std.proofs.Common.{◌≡◌, ℕ, Bool, cond, Option, Some, None, List, [], ◌∷◌, ◌++◌, sym, ◌∙◌, ap, append-nil, option_map}
+use Rattle.pcep_codes.specs.declared.notices.TheConstants as notices
+use Rattle.pce_common.specs.declared.reported.Told.{Told}
+use Rattle.pce_common.specs.plant_model.Types.{Message, Notice, Peer}
+use Rattle.pce_common.specs.plant_model.Names.{has_pair}
 use Rattle.request_table.specs.Pending.{Pending, ArePending, closed_of, number_of}
 use Rattle.pce_common.specs.plant_model.declared.output.Output.{Output}
 use Rattle.pce_common.specs.plant_model.Writing.{busy}
 use Rattle.pce_common.specs.plant_model.Taking.{error_answer}
-use Rattle.pce_common.specs.plant_model.Parent.{Parent, ParentTaken, Asking, AskingRow, answered, cancelled, ended, silent, take_busy, take_cancel, take_failure, told_busy, told_error, waiting}
+use Rattle.pce_common.specs.plant_model.Parent.{Parent, ParentTaken, Asking, AskingRow, answered, cancelled, each, ended, silent, take_busy, take_cancel, take_failure, take_notice, told_busy, told_error, waiting}
 use Rattle.pce_parent.specs.declared.ending.Ending.{Ending}
 use Rattle.pce_parent.specs.declared.sought.Sought.TheVariants.{Asked, Awaited}
 use Rattle.pce_parent.specs.Changes.{all_closed, all_ended}
-use Rattle.pce_parent.specs.Endings.{GoesOn, given_by, then_given}
+use Rattle.pce_parent.specs.Endings.{GoesOn, given_by, steps_of, then_given}
 use Rattle.pce_parent.specs.Soughts.{first_sought, without_these}
 use Rattle.pce_parent.proofs.Gone.{asked_left, closed_more, waiting_left}
 
@@ -22,6 +25,17 @@ at_first e k f none nothing =
 
 pub silent_next : (g : ParentTaken) → then_given g silent ≡ g
 silent_next g = ap (λ (os : List Output). let n : ParentTaken = record { parent = g.parent; outputs = os } in n) (append-nil g.outputs)
+
+-- ---- what a notice tells
+
+pub told_in : (g : ParentTaken) (p : Peer) (n : Notice) (told : Told) → told.busy ≡ has_pair notices.BUSY.0 notices.BUSY.1 n.kinds → told.cancelled ≡ has_pair notices.CANCELLED.0 notices.CANCELLED.1 n.kinds →
+    then_given g (each (λ rp. each (λ step. step p rp) (steps_of told)) n.ids) ≡ then_given g (take_notice p n)
+told_in g p n told busy cancels =
+    ap (λ (b : Bool). by_steps (cond b (cond told.cancelled (take_busy ∷ take_cancel ∷ []) (take_busy ∷ [])) (cond told.cancelled (take_cancel ∷ []) []))) busy
+    ∙ ap (λ (b : Bool). by_steps (cond (has_pair notices.BUSY.0 notices.BUSY.1 n.kinds) (cond b (take_busy ∷ take_cancel ∷ []) (take_busy ∷ [])) (cond b (take_cancel ∷ []) []))) cancels
+  where
+    by_steps : List (Peer → ℕ × ℕ → Parent → ParentTaken) → ParentTaken
+    by_steps steps = then_given g (each (λ rp. each (λ step. step p rp) steps) n.ids)
 
 -- ---- one that ends
 

@@ -1,5 +1,5 @@
 -- Requests that end one after the other.
-use Rattle.std.specs.Prelude.{◌≡◌, ◌++◌, ℕ, cond, List, [], ◌∷◌, Option, Some, None}
+use Rattle.std.specs.Prelude.{◌≡◌, ◌++◌, ℕ, cond, List, [], ◌∷◌}
 use Rattle.pce_common.specs.declared.reported.Told.{Told}
 use Rattle.pce_common.specs.plant_model.Types.{Peer}
 use Rattle.pce_common.specs.plant_model.Parent.{Parent, ParentTaken, take_busy, take_cancel}

@@ -1,5 +1,5 @@
 -- A pending request that a peer names by an id, among those that have not ended.
-use Rattle.std.specs.Prelude.{ℕ, Bool, true, false, not, cond, ◌==◌, List, [], ◌∷◌, filter, Option, Some, None}
+use Rattle.std.specs.Prelude.{ℕ, Bool, not, cond, List, [], ◌∷◌, filter, Option, Some, None}
 use Rattle.request_table.specs.Pending.{same_key, key_of}
 use Rattle.pce_common.specs.plant_model.Parent.{AskingRow, among}
 use Rattle.pce_common.specs.plant_model.Plant.{has_number}

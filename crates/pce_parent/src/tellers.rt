@@ -25,7 +25,7 @@ pub struct Teller {
 
 // The request waits for answers of a peer.
 fn add_waits(waiters: &mut Waiters, peer: Peer, row: Row<'_>) -> Result<(), NoMemory>
-    ensures { (before : ℕ → List ℕ) → AreSaidOf before waiters.old → OnOk result (AreSaidOf (λ id. before id ++ cond (among peer row.item.now.waits id) (row.number ∷ []) []) waiters.new) }
+    ensures { (before : ℕ → List ℕ) → AreSaidOf before waiters.old → OnOk result (AreSaidOf (λ id. before id ++ cond (among peer row.entry.item.now.waits id) (row.entry.number ∷ []) []) waiters.new) }
 {
     for wait in row.item.waits() {
         if wait.is_on(peer) {

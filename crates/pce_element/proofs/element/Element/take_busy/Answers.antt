@@ -1,4 +1,4 @@
-use Rattle.std.proofs.Common.{◌≡◌, ◌∙◌, ℕ, List, Some, sym, ap, subst}
+use Rattle.std.proofs.Common.{◌≡◌, ◌∙◌, ℕ, Some, sym, ap, subst}
 use Rattle.request_table.specs.Pending.{Pending}
 use Rattle.pce_common.specs.plant_model.Element.{Item, waiting}
 use Rattle.pce_common.specs.plant_model.Writing.{busy}

@@ -1,4 +1,4 @@
-use Rattle.std.proofs.Common.{◌≡◌, ◌∙◌, ℕ, List, Some, refl, sym, ap}
+use Rattle.std.proofs.Common.{◌≡◌, ◌∙◌, Some, refl, sym, ap}
 use Rattle.request_table.specs.Pending.{Pending, number_of}
 use Rattle.pce_common.specs.plant_model.Element.{Item}
 use Rattle.pce_element.specs.Changes.{all_closed}

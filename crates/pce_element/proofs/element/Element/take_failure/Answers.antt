@@ -1,4 +1,4 @@
-use Rattle.std.proofs.Common.{◌≡◌, ◌∙◌, ℕ, List, Option, Some, sym, ap, subst}
+use Rattle.std.proofs.Common.{◌≡◌, ◌∙◌, ℕ, Option, Some, sym, ap, subst}
 use Rattle.std.specs.Option.{option_to_list}
 use Rattle.pce_common.specs.plant_model.Types.{Message}
 use Rattle.request_table.specs.Pending.{Pending}

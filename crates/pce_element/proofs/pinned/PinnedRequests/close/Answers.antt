@@ -1,4 +1,4 @@
-use Rattle.std.proofs.Common.{◌≡◌, ◌≤◌, ◌∙◌, ℕ, List, length, nat_eq, sym, ap, subst}
+use Rattle.std.proofs.Common.{◌≡◌, ◌≤◌, ◌∙◌, List, length, nat_eq, sym, ap, subst}
 use Rattle.request_table.specs.Pending.{Pending}
 use Rattle.request_table.proofs.PendingLemmas.{length-remove}
 use Rattle.pce_common.specs.plant_model.Element.{Item, Row}

@@ -1,4 +1,4 @@
-use Rattle.std.proofs.Common.{◌∙◌, List, sym, ap, subst}
+use Rattle.std.proofs.Common.{◌∙◌, sym, subst}
 use Rattle.pce_element.proofs.ReadyLemmas.{StaysPinned, readied_stays}
 use Rattle.pce_element.proofs.pinned.PinnedRequests.make_ready.Goals as goal
 

@@ -1,4 +1,4 @@
-use Rattle.std.proofs.Common.{◌≡◌, ◌∙◌, ◌<◌, ◌++◌, ◌∷◌, [], List, length, sym, ap, subst}
+use Rattle.std.proofs.Common.{◌∙◌, sym, ap}
 use Rattle.request_table.specs.Pending.{Pending, is_full}
 use Rattle.pce_common.specs.plant_model.Element.{Item}
 use Rattle.pce_element.specs.Pinned.{Pinned, pins_in}

@@ -1,4 +1,3 @@
-use Rattle.std.proofs.Common.{◌∙◌}
 use Rattle.pce_common.proofs.plant_model.Live.{live_meets}
 use Rattle.pce_element.specs.Pinned.{pins_in}
 use Rattle.pce_element.specs.Topologies.{current_of}

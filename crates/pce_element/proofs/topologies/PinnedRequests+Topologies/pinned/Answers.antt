@@ -1,5 +1,4 @@
 use Rattle.std.proofs.Common.{◌∙◌, Some, sym, ap, subst, option_map}
-use Rattle.std.specs.Prelude.{List}
 use Rattle.request_table.specs.Pending.{item_of}
 use Rattle.pce_common.specs.plant_model.Plant.{Pin}
 use Rattle.pce_element.specs.Pinned.{Pinned}

@@ -1,4 +1,4 @@
-use Rattle.std.proofs.Common.{◌≡◌, ◌∙◌, ap}
+use Rattle.std.proofs.Common.{◌∙◌, ap}
 use Rattle.te_links.specs.Rows.{Rows}
 use Rattle.pce_common.specs.plant_model.Plant.{Pin}
 use Rattle.pce_element.proofs.PinLemmas.{made_is, pinned_keeps}
