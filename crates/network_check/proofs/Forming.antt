@@ -8,7 +8,7 @@ use Rattle.te_links.specs.declared.fault.RowKind.TheVariants as kinds
 use Rattle.te_links.specs.declared.fault.TopoFault.{TopoFault}
 use Rattle.te_links.specs.declared.fault.TopoFault.TheVariants as topo
 use Rattle.te_text.specs.declared.error.TextError.TheVariants.{At}
-use Rattle.te_text.specs.Reads.{BreaksRule, IsFaulty}
+use Rattle.te_text.specs.Reads.{IsFaulty}
 use Rattle.plant_text.specs.declared.fault.NetFault.{NetFault}
 use Rattle.plant_text.specs.declared.fault.NetFault.TheVariants as fault
 use Rattle.network_files.specs.Reading.{IsTopologyFault}

@@ -1,5 +1,5 @@
 -- A list of numbers among the values of settings.
-use Rattle.std.proofs.Common.{◌≡◌, ◌&&◌, nat_le, Bool, is_some, Some, None, ap, sym}
+use Rattle.std.proofs.Common.{◌≡◌, ◌&&◌, nat_le, is_some, Some, None, ap, sym}
 use Rattle.toml.specs.Data.{Data, Items, string, integer, float, boolean, datetime, array, table, as_array}
 use Rattle.plant_text.specs.SettingsText.{item_count, numbers_in}
 use Rattle.network_check.specs.Kinds.{are_numbers}

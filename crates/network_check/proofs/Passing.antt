@@ -10,7 +10,7 @@ use Rattle.plant_text.specs.declared.fault.NetFault.TheVariants as fault
 use Rattle.network_files.specs.Reading.{IsTopologyFault}
 use Rattle.network_files.specs.Topologies.{topology_max}
 use Rattle.network_check.specs.declared.breaches.Breach.{Breach}
-use Rattle.network_check.specs.Breaches.{AreBreaches, IsRefused, breaches_max, commented, is_last, left_by, passed_all, passed_over, place_behind}
+use Rattle.network_check.specs.Breaches.{AreBreaches, IsRefused, breaches_max, is_last, left_by, passed_all, passed_over, place_behind}
 
 pub none_behind : (text : List ℕ) → place_behind 0 text ≡ 0
 none_behind [] = refl

@@ -1,5 +1,5 @@
 -- Lines that are gone through: those behind a line that was found, and the first that has a key.
-use Rattle.std.proofs.Common.{◌≡◌, ◌∙◌, ◌+◌, ◌-◌, ◌<◌, ◌≤◌, ◌∷◌, ℕ, zero, suc, nat_lt, Bool, true, false, not, List, [], cond, length, filter, find, Option, Some, None, slice_get, refl, ap, sym, subst, arith, inl, inr}
+use Rattle.std.proofs.Common.{◌≡◌, ◌∙◌, ◌+◌, ◌<◌, ◌≤◌, ◌∷◌, ℕ, suc, nat_lt, Bool, true, false, not, List, [], cond, length, find, Option, Some, None, slice_get, refl, ap, sym, subst, arith, inl, inr}
 use Rattle.std.specs.Prelude.{take_while}
 use Rattle.std.specs.Str.Lines.{lines}
 use Rattle.std.proofs.lemmas.Bool.{cases_Bool, le-ltb, lt-ltb, ltb-false}

@@ -1,5 +1,5 @@
 -- Texts within the limits of their files have few lines.
-use Rattle.std.proofs.Common.{◌<◌, ◌≤◌, ◌+◌, ◌^◌, ◌==◌, ℕ, List, length, Option, arith}
+use Rattle.std.proofs.Common.{◌≤◌, ◌+◌, ◌==◌, ℕ, List, length, Option, arith}
 use Rattle.std.specs.List.{All}
 use Rattle.std.specs.Str.Lines.{lines}
 use Rattle.std.proofs.lemmas.List.Elements.{All-weaker}

@@ -1,5 +1,5 @@
 -- The words of a row that is outside the form, one behind the other.
-use Rattle.std.proofs.Common.{◌≡◌, ◌∙◌, ℕ, Bool, true, false, cond, List, [], ◌∷◌, refl, ap, sym}
+use Rattle.std.proofs.Common.{◌≡◌, ◌∙◌, ℕ, Bool, true, false, cond, List, [], ◌∷◌, ap, sym}
 use Rattle.network_check.specs.declared.slots.Slot.{Slot}
 use Rattle.network_check.specs.declared.slots.Slot.TheVariants.{Group}
 use Rattle.network_check.specs.Forms.{extra_text, missing_text, plain_text, rest_text, slots_text, wrong_text}

@@ -1,5 +1,5 @@
 -- What is told of settings that are at fault: the first rule that they break, and each key that lacks, is not known, or has a value that it may not have.
-use Rattle.std.specs.Prelude.{ℕ, ◌==◌, true, false, List, [], ◌∷◌, ◌++◌, codes, decimal, Option, Some, None, if◌then◌else◌}
+use Rattle.std.specs.Prelude.{ℕ, ◌==◌, true, false, List, [], ◌∷◌, ◌++◌, codes, Option, Some, None, if◌then◌else◌}
 use Rattle.dom_base.specs.Steps.{◌>>=◌}
 use Rattle.toml.specs.Data.{Data, Members, table, at, get_member}
 use Rattle.te_links.specs.declared.limits.TheConstants.{METRIC_MAX}

@@ -1,7 +1,7 @@
 -- What is told of a topology whose text is outside the form: each line that is, with the first word of it that may not stand at its place.
 use Rattle.std.specs.Prelude.{◌≡◌, ℕ, Bool, true, false, is_some, codes, List, [], ◌∷◌, ◌++◌, Option, Some, None, Err, if◌then◌else◌}
 use Rattle.dom_base.specs.Steps.{◌>>=◌}
-use Rattle.line_text.specs.Lines.{NumberedLine, told_lines}
+use Rattle.line_text.specs.Lines.{NumberedLine}
 use Rattle.line_text.specs.Words.{all_words, is_trimmed, words_of}
 use Rattle.te_links.specs.declared.fault.RowKind.{RowKind}
 use Rattle.te_links.specs.declared.fault.RowKind.TheVariants as kinds

@@ -6,7 +6,7 @@ use Rattle.dom_base.specs.declared.addr.Addr.TheVariants.{V4, V6}
 use Rattle.dom_base.specs.AddrText.{addr_in}
 use Rattle.dom_base.specs.Numerals.{colour_in}
 use Rattle.te_links.specs.declared.limits.TheConstants.{SRLGS_MAX}
-use Rattle.toml.specs.Data.{Data, Items, integer, array, as_bool, as_str}
+use Rattle.toml.specs.Data.{Data, integer, array, as_bool, as_str}
 use Rattle.plant_text.specs.Rules.{is_name as is_peer_name}
 use Rattle.plant_text.specs.SettingsText.{item_count, numbers_in}
 use Rattle.network_check.specs.declared.kinds.Kind.{Kind}

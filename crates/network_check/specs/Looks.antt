@@ -5,14 +5,12 @@ use Rattle.std.specs.Option.{option_map}
 use Rattle.dom_base.specs.declared.names.As.{As}
 use Rattle.dom_edge.specs.Causes.{Rose, counted_on}
 use Rattle.dom_edge.specs.Stores.{Files, HasFile, IfFile, IsLongFile}
-use Rattle.te_links.specs.Rows.{Rows}
 use Rattle.te_text.specs.Reads.{Reads}
 use Rattle.toml.specs.View.{table_view}
 use Rattle.plant_text.specs.declared.settings.ElementRow.{ElementRow}
 use Rattle.plant_text.specs.Reads.{IsFaulty, Reads as ReadsSettings, document}
 use Rattle.network_files.specs.Settings.{settings_max}
 use Rattle.network_files.specs.Topologies.{topology_max}
-use Rattle.network_check.specs.declared.looks.Chart.{Chart}
 use Rattle.network_check.specs.declared.looks.Look.{Look}
 use Rattle.network_check.specs.declared.looks.Look.TheVariants as look
 use Rattle.network_check.specs.declared.looks.Seen.{Seen}

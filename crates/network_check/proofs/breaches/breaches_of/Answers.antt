@@ -1,4 +1,4 @@
-use Rattle.std.proofs.Common.{◌≡◌, ◌∙◌, ◌+◌, ◌≤◌, ◌++◌, ◌∷◌, [], ℕ, true, List, length, Some, arith, subst, sym}
+use Rattle.std.proofs.Common.{◌≡◌, ◌∙◌, ◌+◌, ◌≤◌, ◌++◌, ◌∷◌, [], ℕ, true, List, length, arith, subst, sym}
 use Rattle.network_files.specs.Reading.{IsTopologyFault}
 use Rattle.network_check.specs.declared.breaches.Breach.{Breach}
 use Rattle.network_check.specs.Breaches.{IsNext, IsRefused, breaches_max, is_last}

@@ -1,4 +1,4 @@
-use Rattle.std.proofs.Common.{◌≡◌, ◌+◌, length, drop}
+use Rattle.std.proofs.Common.{◌≡◌, ◌+◌, drop}
 use Rattle.network_check.specs.Breaches.{place_behind}
 use Rattle.network_check.proofs.breaches.place_behind.Given as goal
 

@@ -1,6 +1,6 @@
-use Rattle.std.proofs.Common.{◌≡◌, ◌∙◌, ◌-◌, suc, ap, arith, refl, slice_get, sym}
+use Rattle.std.proofs.Common.{◌≡◌, ◌∙◌, ◌-◌, suc, ap, arith, refl, sym}
 use Rattle.line_text.specs.Lines.{NumberedLine}
-use Rattle.network_check.specs.Places.{headed, left_behind}
+use Rattle.network_check.specs.Places.{left_behind}
 use Rattle.network_check.proofs.Placing.{left_is, rest_left, row_counted, row_of_all, row_passed, whole_left}
 use Rattle.network_check.proofs.places.seek.Goals as goal
 
