@@ -105,7 +105,10 @@ pub(crate) fn say_unread(rt: &HostRuntime, file: &[u8]) {
 /// Says on the standard error what tells all faults of these settings.
 pub(crate) fn say_check(rt: &HostRuntime, settings: Option<&String>) {
     if let Some(name) = settings {
-        let _ = eprintln!(rt; "pce: `pce check {}` tells each fault", Told(&name.as_str()));
+        let _ = eprintln!(rt;
+            "pce: `pce check {}` tells each fault",
+            Told(&name.as_str())
+        );
     }
 }
 

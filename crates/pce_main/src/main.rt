@@ -122,7 +122,13 @@ fn is_checked(words: &[String], status: &Status) -> bool {
 
 // What is said behind a status: help where the words ask for it; which file can't be read; what tells more of the settings; and on a
 // terminal which word is wrong.
-fn say_more(rt: &HostRuntime, words: &[String], typed: Option<&String>, status: &Status, unread: &[u8]) {
+fn say_more(
+    rt: &HostRuntime,
+    words: &[String],
+    typed: Option<&String>,
+    status: &Status,
+    unread: &[u8],
+) {
     if asks_for_help(words) {
         say_help(rt, words);
         return;
@@ -178,14 +184,34 @@ where
     code
 }
 
+// What the words ask the program itself for.
+#[derive(Clone, Copy)]
+enum Asked {
+    Help,
+    Version,
+    Server,
+    /// A command that comes to an end.
+    Run,
+}
+
+fn asked_of(words: &[String]) -> Asked {
+    match words {
+        [word] if word.as_str() == "--help" => Asked::Help,
+        [word] if word.as_str() == "--version" => Asked::Version,
+        [verb, _] if verb.as_str() == "serve" => Asked::Server,
+        _ => Asked::Run,
+    }
+}
+
 fn main(rt: HostRuntime) -> ExitCode {
-    match words_of(&rt) {
-        Ok(mut words) => match words.as_slice() {
-            [word] if word.as_str() == "--help" => end_of(&rt, say(&rt, HELP)),
-            [word] if word.as_str() == "--version" => end_of(&rt, say(&rt, VERSION)),
-            [verb, _] if verb.as_str() == "serve" => end_of_server(&rt, rt, &mut words),
-            _ => run_command(&rt, &mut words),
-        },
-        Err(status) => end_of(&rt, status),
+    let mut words = match words_of(&rt) {
+        Ok(words) => words,
+        Err(status) => return end_of(&rt, status),
+    };
+    match asked_of(&words) {
+        Asked::Help => end_of(&rt, say(&rt, HELP)),
+        Asked::Version => end_of(&rt, say(&rt, VERSION)),
+        Asked::Server => end_of_server(&rt, rt, &mut words),
+        Asked::Run => run_command(&rt, &mut words),
     }
 }
