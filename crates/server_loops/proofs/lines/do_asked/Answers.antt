@@ -23,9 +23,6 @@ returns-in-File-clause-goes g c =
     asked_goes_task x k c.args.asked (File is_change at c.in-File.name) a b c.do_file.result a.past b.past spent before after (sym c.task_of.ensures ∙ c.in-File.is)
     (subst (λ (name : List ℕ). Goes (DoesFile x k is_change at name a b) c.do_file.result a.past b.past spent before after) c.as_str-name.ensures c.do_file.ensures.goes)
 
-pub do_event-requires-own : goal.do_event-requires-own
-do_event-requires-own g c = made_is_own c.args.asked c.in-Make.event (sym c.task_of.ensures ∙ c.in-Make.is)
-
 pub returns-in-Make-clause-goes : goal.returns-in-Make-clause-goes
 returns-in-Make-clause-goes g c =
     let x = context c.args.network.now (g.T.Store.files c.args.store.now) in
