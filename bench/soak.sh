@@ -5,9 +5,10 @@
 # stay as it was after the first tenth of the time. It tells what was answered and how much memory there was, once a minute and at the end, with
 # what the server and these clients took of a processor and how busy the machine was; the status is 0 where nothing was wrong. It needs Python.
 # It stands outside the gate.
-# usage: bench/soak.sh [PROGRAM [MINUTES]] [--life TICKS] [--pause SECONDS] [--held] [--without asks|loads|resets ..]
+# usage: bench/soak.sh [PROGRAM [MINUTES]] [--life TICKS] [--pause SECONDS] [--held] [--harm PEERS] [--without asks|loads|resets ..]
 #   (the program that the gate proved and built, 30 minutes, keys that live for 5 ticks, a pause of up to 0.3 seconds before each request, and
-#    nothing left out; without a part it shows what memory does by the others alone. With --held, which needs a C compiler, it tells too what the
+#    nothing left out; without a part it shows what memory does by the others alone. With --harm so many further clients do what nobody should,
+#    meanwhile: octets at random, messages that drip, answers that are not read, resets, guesses of keys, forged replies, long lists. With --held, which needs a C compiler, it tells too what the
 #    program holds of the memory that it has: blocks that were taken and not given back. MALLOC_ARENA_MAX=1 before it has all threads share
 #    one pool of memory)
 set -eu
@@ -32,6 +33,7 @@ says.add_argument("minutes", nargs="?", type=float, default=30)
 says.add_argument("--life", type=int, default=5)
 says.add_argument("--pause", type=float, default=0.3)
 says.add_argument("--held", action="store_true")
+says.add_argument("--harm", type=int, default=0)
 says.add_argument("--without", nargs="*", default=[], choices=("asks", "loads", "resets"))
 given = says.parse_args()
 program, minutes, LIFE = os.path.abspath(given.program), given.minutes, given.life
@@ -129,6 +131,63 @@ class Client(threading.Thread):
                     self.keys[hop.value] = now
 
 
+class Harm(threading.Thread):
+    """Does what nobody should, in one way behind the other, each over a connection of its own."""
+
+    def __init__(self, place, port):
+        super().__init__(daemon=True)
+        self.port, self.at, self.draws, self.done = port, place % ELEMENTS + 1, random.Random(place), 0
+
+    def run(self):
+        ways = (self.say_anything, self.drip, self.never_read, self.go, self.guess, self.forge, self.name_many)
+        while time.monotonic() < end:
+            try:
+                with Session("127.0.0.1", self.port, within=2) as session:
+                    self.draws.choice(ways)(session)
+            except (Silent, Ended, OSError):
+                pass
+            self.done += 1
+            time.sleep(0.05)
+
+    def number(self):
+        return self.draws.randrange(1, 2**32)
+
+    def say_anything(self, session):
+        session.send(self.draws.randbytes(self.draws.randrange(1, 4096)))
+        session.rest(1)
+
+    def drip(self, session):
+        session.begin()
+        for octet in self.expansion():
+            session.send(bytes([octet]))
+            time.sleep(0.01)
+
+    def never_read(self, session):
+        session.begin().send(*(self.expansion() for _ in range(5000)))
+        time.sleep(1)
+
+    def go(self, session):
+        session.begin().send(self.expansion()[:self.draws.randrange(1, 20)])
+        session.socket.setsockopt(socket.SOL_SOCKET, socket.SO_LINGER, struct.pack("ii", 1, 0))
+
+    def guess(self, session):
+        session.begin()
+        for _ in range(50):
+            session.ask(self.expansion())
+
+    def forge(self, session):
+        session.begin().send(*(messages.message_of(messages.REPLY, messages.parameters_of(self.number()), messages.object_of(3, 1, bytes(4))) for _ in range(100)))
+        session.rest(0.5)
+
+    def name_many(self, session):
+        first = self.draws.randrange(1, 2**31)
+        session.begin().send(messages.message_of(5, *map(messages.parameters_of, range(first, first + 5000)), messages.object_of(12, 1, bytes([0, 0, 1, 1]))))
+        session.rest(0.5)
+
+    def expansion(self):
+        return messages.expansion_of(self.number(), self.draws.randrange(2**16), "192.0.2.%d" % self.at)
+
+
 def memory_now(server):
     with open("/proc/%d/status" % server.process.pid) as file:
         return next(int(line.split()[1]) for line in file if line.startswith("VmRSS")) / 1024
@@ -162,11 +221,12 @@ def rise(points):
     return sum((a - x) * (b - y) for a, b in points) / sum((a - x) ** 2 for a, _ in points)
 
 
-first = servers.free_ports(CLIENTS)
+first = servers.free_ports(CLIENTS + given.harm)
 names = ["t%d.txt" % domain for domain in range(1, ELEMENTS + 1)]
 files = [(name, topology(domain, COSTS[0])) for domain, name in enumerate(names, 1)]
 files += [("u%d.txt" % domain, topology(domain, COSTS[1])) for domain in range(1, ELEMENTS + 1)]
 peers = [("c%d" % place, place % (ELEMENTS - 2) + 1, "client", first + place) for place in range(CLIENTS)]
+peers += [("x%d" % place, place % ELEMENTS + 1, "client", first + CLIENTS + place) for place in range(given.harm)]
 settings = servers.in_a_row(ELEMENTS, peers, names, "workers = 4\n", key_life=LIFE)
 folder = tempfile.TemporaryDirectory()
 shown = count_held(folder.name) if given.held else None
@@ -178,6 +238,9 @@ with servers.Server(program, settings, files, within=60) as server:
     for client in clients:
         client.keys = clients[0].keys
         client.start()
+    harmful = [Harm(place, first + CLIENTS + place) for place in range(given.harm)]
+    for one in harmful:
+        one.start()
     turn, loads, memory, held, busy = 0, 0, [], [], []
 
     def answers():
@@ -217,11 +280,11 @@ with servers.Server(program, settings, files, within=60) as server:
         client.join(90)
     settled = max(megabytes for at, megabytes in memory if at < 6 * minutes + 1)
     most = max(megabytes for _, megabytes in memory)
-    if most > 1.1 * settled + 1:
+    if most > 1.1 * settled + 1 + given.harm:  # for each that does harm a megabyte more may wait
         differs("memory rose from %.1f to %.1f megabytes" % (settled, most))
     second = [point for point in memory if point[0] > 30 * minutes]
-    print("soak: %d answers, %d without a free key, %d resets, %d loads" % (
-        answers(), sum(client.refused for client in clients), sum(client.resets for client in clients), loads))
+    print("soak: %d answers, %d without a free key, %d resets, %d loads; harm %d times" % (
+        answers(), sum(client.refused for client in clients), sum(client.resets for client in clients), loads, sum(one.done for one in harmful)))
     print("soak: %.2f megabytes after a tenth of the time, %.2f at the most, %+.3f a minute in the second half; %s" % (
         settled, most, 60 * rise(second), told))
     print("soak: %d wrong" % len(wrong))

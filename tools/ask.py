@@ -85,7 +85,9 @@ def main():
         with sessions.Session(given.host, port, given.within, given.origin) as session:
             reply = session.begin().ask(request)
             session.send(CLOSE)
-    except (sessions.Silent, sessions.Ended, OSError) as fault:
+    except sessions.Silent as fault:
+        stop(3, "%s port %d: %s (a port may be another peer's, or be taken: it serves one connection at a time)" % (given.host, port, fault))
+    except (sessions.Ended, OSError) as fault:
         stop(3, "%s port %d: %s" % (given.host, port, getattr(fault, "strerror", None) or fault))
     print(reply.hex() if given.octets else in_words(reply))
     sys.exit(0 if is_path(reply) else 1)

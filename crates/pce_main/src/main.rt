@@ -2,52 +2,27 @@
 #![tactic(auto)]
 
 mod errors;
+mod help;
 mod patient;
 mod ports;
 mod progress;
 mod server;
 mod steady;
 
+use crate::help::{HELP, asks_for_help, say_check, say_help, say_unread, say_what_is_wrong};
 use crate::progress::Progress;
 use crate::server::{Ended, serve_network};
 use crate::steady::Told;
 use dom_edge::{FileStore, InputSource, OutputSink, write_all};
 use pce_tool::{Status, run};
+use plant_text::NetFault;
 use std::alloc::Global;
+use std::io::IsTerminal;
 use std::process::ExitCode;
 use std::sync::Wait;
 use std::thread::Threads;
 use std::time::Clock;
 use std::{env, fmt, io};
-
-const HELP: &str = "\
-usage: pce COMMAND
-
-answer TOPO         reads a path request in hexadecimal, writes the reply in hexadecimal
-certify TOPO        reads the same, writes a certificate: the least labels and the chosen path
-verify TOPO CERT    reads the same, checks a certificate, writes `holds`
-pair TOPO           reads two path requests joined by an SVEC, writes the two replies: the least pair
-                    of paths that share no link
-pair-certify TOPO   reads the same, writes a certificate of that pair, or that there is none
-pair-verify TOPO CERT
-                    reads the same, checks a certificate of a pair, writes `holds`
-path NET SRC DST AS ..
-                    asks a network for a path through these domains, as a client of the first, writes
-                    its cost and hops, a line each
-path NET SRC DST parent AS
-                    asks for a path from that domain, whose domains the parent finds
-play NET            reads a script of events, plays it on a network, writes its transcript
-serve NET           serves a network at the ports of its peers until it is ended by a signal: reads lines
-                    `load AS FILE` and `change AS FILE`, writes what came of each
-blind NET           reads a script whose solves have border tables, plays it on a network without
-                    topologies, writes what closed peers hear
-bulk N              draws a large network and N requests (1 to 8000), writes what they are answered in all
---help              writes this table
---version           writes the versions of the program and of the toolchain
-
-Files that settings and scripts name are looked for in the folder of the settings. `serve` listens at
-the address in the variable PCE_LISTEN (`all` for all of the machine), or without it at 127.0.0.1.
-";
 
 const VERSION: &str = "pce 0.1.0, proved with rattle-kit-13f logic dac8208d650f15bf\n";
 
@@ -73,7 +48,7 @@ fn words_of(rt: &HostRuntime) -> Result<Vec<String>, Status> {
 
 // Whether the word behind this command is the file of a network's settings.
 fn takes_settings(verb: &str) -> bool {
-    matches!(verb, "path" | "play" | "blind" | "serve")
+    matches!(verb, "path" | "play" | "blind" | "serve" | "check")
 }
 
 // A file's folder and its name there; none where the name begins in the working folder.
@@ -105,26 +80,6 @@ fn enter_folder(rt: &HostRuntime, words: &mut [String]) -> Result<(), Status> {
     Ok(())
 }
 
-// Runs a command over the real files, input and output.
-fn run_command(rt: &HostRuntime, mut words: Vec<String>) -> Status {
-    if let Err(status) = enter_folder(rt, &mut words) {
-        return status;
-    }
-    let alloc = rt.alloc();
-    let mut store = FileStore::new(alloc, *rt);
-    let mut input = InputSource::new(rt.reader());
-    let mut out = Progress::new(*rt, OutputSink::new(io::writer(rt)));
-    run(alloc, &words, &mut store, &mut input, &mut out)
-}
-
-fn status_of(rt: &HostRuntime, words: Vec<String>) -> Status {
-    match words.as_slice() {
-        [word] if word.as_str() == "--help" => say(rt, HELP),
-        [word] if word.as_str() == "--version" => say(rt, VERSION),
-        _ => run_command(rt, words),
-    }
-}
-
 // Ends with a number, and where that is not 0, with a text on standard error.
 fn end<E: fmt::Display>(rt: &HostRuntime, number: u8, text: &E) -> ExitCode {
     if number != 0 {
@@ -133,29 +88,130 @@ fn end<E: fmt::Display>(rt: &HostRuntime, number: u8, text: &E) -> ExitCode {
     ExitCode::from(number)
 }
 
+fn end_of(rt: &HostRuntime, status: Status) -> ExitCode {
+    end(rt, status.number(), &status)
+}
+
+// The file of the settings, as the words name it.
+fn typed_settings(rt: &HostRuntime, words: &[String]) -> Option<String> {
+    match words {
+        [verb, settings, ..] if takes_settings(verb.as_str()) => settings
+            .as_str()
+            .to_string(rt.alloc())
+            .ok(),
+        _ => None,
+    }
+}
+
+// Whether a command ended by a fault that `check` tells, too: one of the settings, or of a topology that they name.
+fn is_checked(words: &[String], status: &Status) -> bool {
+    let [verb, settings, ..] = words else {
+        return false;
+    };
+    match status {
+        Status::BadNetwork {
+            fault: NetFault::NoElement,
+            ..
+        } => false,
+        Status::BadNetwork { file, .. } => {
+            verb.as_str() == "path" || file.as_str() == settings.as_str()
+        }
+        _ => false,
+    }
+}
+
+// What is said behind a status: help where the words ask for it; which file can't be read; what tells more of the settings; and on a
+// terminal which word is wrong.
+fn say_more(
+    rt: &HostRuntime,
+    words: &[String],
+    typed: Option<&String>,
+    status: &Status,
+    unread: &[u8],
+) {
+    if asks_for_help(words) {
+        say_help(rt, words);
+        return;
+    }
+    match status {
+        Status::Usage if rt.stderr().is_terminal() => say_what_is_wrong(rt, words),
+        Status::ReadFault => say_unread(rt, unread),
+        status if is_checked(words, status) => say_check(rt, typed),
+        _ => {}
+    }
+}
+
+// Runs a command over the real files, input and output.
+fn run_command(rt: &HostRuntime, words: &mut [String]) -> ExitCode {
+    let typed = typed_settings(rt, words);
+    if let Err(status) = enter_folder(rt, words) {
+        return end(rt, status.number(), &status);
+    }
+    let alloc = rt.alloc();
+    let mut store = FileStore::new(alloc, *rt);
+    let mut input = InputSource::new(rt.reader());
+    let mut out = Progress::new(*rt, OutputSink::new(io::writer(rt)));
+    let status = run(alloc, words, &mut store, &mut input, &mut out);
+    let code = end(rt, status.number(), &status);
+    if status.number() != 0 {
+        say_more(rt, words, typed.as_ref(), &status, store.failed_at());
+    }
+    code
+}
+
 // Serves a network, beside whose settings the files are that these and an operator name.
 fn end_of_server<R>(rt: &HostRuntime, threads: R, words: &mut [String]) -> ExitCode
 where
     R: Threads + Wait + Clock + Copy + Send + Drop + 'static,
 {
+    let typed = typed_settings(rt, words);
     if let Err(status) = enter_folder(rt, words) {
         return end(rt, status.number(), &status);
     }
+    let mut store = FileStore::new(rt.alloc(), *rt);
     let ended = match words {
-        [_verb, settings] => serve_network(rt, threads, settings.as_str()),
+        [_verb, settings] => serve_network(rt, threads, &mut store, settings.as_str()),
         _ => Ended::Usage,
     };
-    end(rt, ended.number(), &ended)
+    let code = end(rt, ended.number(), &ended);
+    if asks_for_help(words) {
+        say_help(rt, words);
+    } else if ended.is_unread() {
+        say_unread(rt, store.failed_at());
+    } else if ended.is_checked() {
+        say_check(rt, typed.as_ref());
+    }
+    code
+}
+
+// What the words ask the program itself for.
+#[derive(Clone, Copy)]
+enum Asked {
+    Help,
+    Version,
+    Server,
+    /// A command that comes to an end.
+    Run,
+}
+
+fn asked_of(words: &[String]) -> Asked {
+    match words {
+        [word] if word.as_str() == "--help" => Asked::Help,
+        [word] if word.as_str() == "--version" => Asked::Version,
+        [verb, _] if verb.as_str() == "serve" => Asked::Server,
+        _ => Asked::Run,
+    }
 }
 
 fn main(rt: HostRuntime) -> ExitCode {
-    match words_of(&rt) {
-        Ok(mut words) if matches!(words.as_slice(), [verb, _] if verb.as_str() == "serve") =>
-            end_of_server(&rt, rt, &mut words),
-        Ok(words) => {
-            let status = status_of(&rt, words);
-            end(&rt, status.number(), &status)
-        }
-        Err(status) => end(&rt, status.number(), &status),
+    let mut words = match words_of(&rt) {
+        Ok(words) => words,
+        Err(status) => return end_of(&rt, status),
+    };
+    match asked_of(&words) {
+        Asked::Help => end_of(&rt, say(&rt, HELP)),
+        Asked::Version => end_of(&rt, say(&rt, VERSION)),
+        Asked::Server => end_of_server(&rt, rt, &mut words),
+        Asked::Run => run_command(&rt, &mut words),
     }
 }

@@ -37,6 +37,16 @@ impl Ended {
             Ended::Served(Served::NoPort(_)) => 11,
         }
     }
+
+    /// Whether it ended by a fault that `check` tells, too.
+    pub(crate) fn is_checked(&self) -> bool {
+        matches!(self, Ended::Served(Served::BadNetwork { .. }))
+    }
+
+    /// Whether it ended by a file that could not be read.
+    pub(crate) fn is_unread(&self) -> bool {
+        matches!(self, Ended::Served(Served::ReadFault))
+    }
 }
 
 fn fmt_bad<W: fmt::Write>(
@@ -93,8 +103,14 @@ fn place_of(text: &str) -> Option<(IpAddr, &str)> {
     }
 }
 
-/// Serves the network of these settings until a signal ends the process. `threads` is the handle of what waits and starts threads.
-pub(crate) fn serve_network<R>(rt: &HostRuntime, threads: R, settings: &str) -> Ended
+/// Serves the network of these settings, whose files `store` reads, until a signal ends the process. `threads` is the handle of what
+/// waits and starts threads.
+pub(crate) fn serve_network<R>(
+    rt: &HostRuntime,
+    threads: R,
+    store: &mut FileStore<HostRuntime>,
+    settings: &str,
+) -> Ended
 where
     R: Threads + Wait + Clock + Copy + Send + Drop + 'static,
 {
@@ -112,7 +128,7 @@ where
         threads,
         alloc,
         settings,
-        &mut FileStore::new(alloc, *rt),
+        store,
         &mut NamedPorts::new(*rt, SocketPorts::new(*rt, alloc, address)),
         &mut spawner,
         &mut WallClock::new(*rt),

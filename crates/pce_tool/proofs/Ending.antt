@@ -36,6 +36,7 @@ topology_status files name line fault counts failed is (status.BadNetwork file a
     told : (held : Option Files) → IfFile held name (λ bytes. IsFaulty bytes line fault) → IfFile held name (λ bytes. IsTopo (λ f. IsFaulty bytes at f) other)
     told None is = tt
     told (Some fs) is = (is.0, is.1, (fault, bad.2, subst (λ (k : ℕ). IsFaulty is.0 k fault) (sym bad.1) is.2))
+topology_status files name line fault counts failed is status.Faulty bad = absurd bad
 topology_status files name line fault counts failed is (status.BadLine number) bad = absurd bad
 topology_status files name line fault counts failed is status.NoMemory bad = tt
 topology_status files name line fault counts failed is (status.BadRequest why) bad = absurd bad
@@ -55,6 +56,7 @@ topology_ends w c name rest is nothing status.Usage why = absurd why
 topology_ends w c name rest is nothing status.ReadFault why = (nothing, inl (first w c name rest _ is why))
 topology_ends w c name rest is nothing status.WriteFault why = absurd why
 topology_ends w c name rest is nothing (status.BadNetwork file line fault) why = (nothing, first w c name rest _ is why)
+topology_ends w c name rest is nothing status.Faulty why = absurd why
 topology_ends w c name rest is nothing (status.BadLine line) why = absurd why
 topology_ends w c name rest is nothing status.NoMemory why = nothing
 topology_ends w c name rest is nothing (status.BadRequest reason) why = absurd why
@@ -79,6 +81,7 @@ second_ends w c topology g f IsFault is has in_file nothing (status.BadNetwork f
     told : (files : Option Files) → IfFile files (name_of f) (λ bytes. IsFault bytes line fault) → IfFile files (name_of f) (λ bytes. IsFaultIn w.files f bytes line fault)
     told None h = tt
     told (Some fs) h = (h.0, h.1, in_file h.0 line fault h.2)
+second_ends w c topology g f IsFault is has in_file nothing status.Faulty why = absurd why
 second_ends w c topology g f IsFault is has in_file nothing (status.BadLine line) why = absurd why
 second_ends w c topology g f IsFault is has in_file nothing status.NoMemory why = nothing
 second_ends w c topology g f IsFault is has in_file nothing (status.BadRequest reason) why = absurd why
@@ -93,6 +96,7 @@ failed_since files name limit IsFault a b c failed_at earlier status.Usage why =
 failed_since files name limit IsFault a b c failed_at earlier status.ReadFault why = (omega (arith, earlier, why.0), why.1)
 failed_since files name limit IsFault a b c failed_at earlier status.WriteFault why = absurd why
 failed_since files name limit IsFault a b c failed_at earlier (status.BadNetwork file line fault) why = why
+failed_since files name limit IsFault a b c failed_at earlier status.Faulty why = absurd why
 failed_since files name limit IsFault a b c failed_at earlier (status.BadLine line) why = absurd why
 failed_since files name limit IsFault a b c failed_at earlier status.NoMemory why = why
 failed_since files name limit IsFault a b c failed_at earlier (status.BadRequest reason) why = absurd why
@@ -121,6 +125,7 @@ input_ends w c g read has nothing status.Usage is = absurd is
 input_ends w c g read has nothing status.ReadFault is = (nothing, inr (read, is))
 input_ends w c g read has nothing status.WriteFault is = absurd is
 input_ends w c g read has nothing (status.BadNetwork file line fault) is = absurd is
+input_ends w c g read has nothing status.Faulty is = absurd is
 input_ends w c g read has nothing (status.BadLine line) is = absurd is
 input_ends w c g read has nothing status.NoMemory is = nothing
 input_ends w c g read has nothing (status.BadRequest why) is =
@@ -135,6 +140,7 @@ finished w c text out status.Usage is = absurd is
 finished w c text out status.ReadFault is = absurd is
 finished w c text out status.WriteFault is = record { rose = is.0; text = text; is_output = out; part = is.1 }
 finished w c text out (status.BadNetwork file line fault) is = absurd is
+finished w c text out status.Faulty is = absurd is
 finished w c text out (status.BadLine line) is = absurd is
 finished w c text out status.NoMemory is = absurd is
 finished w c text out (status.BadRequest why) is = absurd is

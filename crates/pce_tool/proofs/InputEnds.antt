@@ -12,6 +12,7 @@ whatever_is_bad IsBad input counts status.Usage h = absurd h
 whatever_is_bad IsBad input counts status.ReadFault h = h
 whatever_is_bad IsBad input counts status.WriteFault h = absurd h
 whatever_is_bad IsBad input counts (status.BadNetwork file line fault) h = absurd h
+whatever_is_bad IsBad input counts status.Faulty h = absurd h
 whatever_is_bad IsBad input counts (status.BadLine line) h = absurd h
 whatever_is_bad IsBad input counts status.NoMemory h = tt
 whatever_is_bad IsBad input counts (status.BadRequest why) h = absurd h.3

@@ -1,5 +1,5 @@
 -- How a run over a network ends, from how its parts ended.
-use Rattle.std.proofs.Common.{◌≡◌, ◌≤◌, ℕ, true, List, length, Some, None, inr, sym, subst}
+use Rattle.std.proofs.Common.{◌≡◌, ◌≢◌, ◌≤◌, ℕ, true, List, length, Some, None, inr, refl, sym, subst}
 use Rattle.std.specs.declared.option.Option.{Option}
 use Rattle.std.specs.Io.KnownBytes.{Appends}
 use Rattle.client_laws.specs.plant_model.Types.{As, NetFault, NetworkParts}
@@ -24,7 +24,8 @@ use Rattle.pce_tool.specs.declared.status.Status.TheVariants as status
 use Rattle.network_files.specs.Settings.{HasNetwork, settings_max}
 use Rattle.pce_tool.specs.Worlds.{World, WroteNothing}
 use Rattle.pce_tool.specs.Parts.{IsBadSettings, IsFileStatus, IsFinished}
-use Rattle.pce_tool.specs.Networks.{BlindEnds, BulkEnds, HasScript, IsBlindStatus, IsCounted, IsPathStatus, IsPlayStatus, IsSettingsFault, IsStopStatus, PathEnds, PlayEnds, question_of, status_of}
+use Rattle.network_check.specs.declared.findings.Report.{Report}
+use Rattle.pce_tool.specs.Networks.{BlindEnds, BulkEnds, CheckEnds, HasScript, IsBlindStatus, IsChecked, IsCounted, IsPathStatus, IsPlayStatus, IsReported, IsSettingsFault, IsStopStatus, PathEnds, PlayEnds, question_of, status_of}
 
 -- ---- settings
 
@@ -40,6 +41,7 @@ settings_status files name fault counts failed is status.ReadFault bad = absurd 
 settings_status files name fault counts failed is status.WriteFault bad = absurd bad
 settings_status files name fault counts failed is (status.BadNetwork file line other) bad =
     (bad.0, in_file files name line other bad.1 (subst (λ (f : NetFault). IfFile files name (λ b. IsFaulty b f)) (sym bad.2) is))
+settings_status files name fault counts failed is status.Faulty bad = absurd bad
 settings_status files name fault counts failed is (status.BadLine line) bad = absurd bad
 settings_status files name fault counts failed is status.NoMemory bad = tt
 settings_status files name fault counts failed is (status.BadRequest why) bad = absurd bad
@@ -56,6 +58,7 @@ play_before files n script written f0 f1 f2 o failed le status.ReadFault is = sc
 play_before files n script written f0 f1 f2 o failed le status.WriteFault is = script_before files n script written f0 f1 f2 o failed le stop.WriteFault is
 play_before files n script written f0 f1 f2 o failed le (status.BadNetwork file line fault) is =
     script_before files n script written f0 f1 f2 o failed le (stop.BadNetwork file line fault) is
+play_before files n script written f0 f1 f2 o failed le status.Faulty is = is
 play_before files n script written f0 f1 f2 o failed le (status.BadLine line) is = script_before files n script written f0 f1 f2 o failed le (stop.BadLine line) is
 play_before files n script written f0 f1 f2 o failed le status.NoMemory is = script_before files n script written f0 f1 f2 o failed le stop.NoMemory is
 play_before files n script written f0 f1 f2 o failed le (status.BadRequest why) is = is
@@ -99,6 +102,7 @@ told w n r received text asks is status.ReadFault fin = absurd fin
 told w n r received text asks is status.WriteFault fin =
     record { received = received; answered = asks; rose = fin.0; part = subst (AppendsSome w.before w.after) is fin.1 }
 told w n r received text asks is (status.BadNetwork file line fault) fin = absurd fin
+told w n r received text asks is status.Faulty fin = absurd fin
 told w n r received text asks is (status.BadLine line) fin = absurd fin
 told w n r received text asks is status.NoMemory fin = absurd fin
 told w n r received text asks is (status.BadRequest why) fin = absurd fin
@@ -157,8 +161,38 @@ bulk_told w n tally text counted is status.Usage fin = absurd fin
 bulk_told w n tally text counted is status.ReadFault fin = absurd fin
 bulk_told w n tally text counted is status.WriteFault fin = record { tally = tally; counted = counted; rose = fin.0; part = subst (AppendsSome w.before w.after) is fin.1 }
 bulk_told w n tally text counted is (status.BadNetwork file line fault) fin = absurd fin
+bulk_told w n tally text counted is status.Faulty fin = absurd fin
 bulk_told w n tally text counted is (status.BadLine line) fin = absurd fin
 bulk_told w n tally text counted is status.NoMemory fin = absurd fin
 bulk_told w n tally text counted is (status.BadRequest why) fin = absurd fin
 bulk_told w n tally text counted is (status.Refuted place) fin = absurd fin
 bulk_told w n tally text counted is (status.TooLarge name) fin = absurd fin
+
+-- ---- what is told of a network's files
+
+-- the output failed while it was written
+pub report_cut : (before after : Option (List ℕ)) (counts : ℕ × ℕ) (r : Report) (s : Status) → s ≢ status.Ok → IsFinished before after counts r.text s → IsReported before after counts r s
+report_cut before after counts r status.Ok ended fin = absurd (ended refl)
+report_cut before after counts r status.Usage ended fin = absurd fin
+report_cut before after counts r status.ReadFault ended fin = absurd fin
+report_cut before after counts r status.WriteFault ended fin = fin
+report_cut before after counts r (status.BadNetwork file line fault) ended fin = absurd fin
+report_cut before after counts r status.Faulty ended fin = absurd fin
+report_cut before after counts r (status.BadLine line) ended fin = absurd fin
+report_cut before after counts r status.NoMemory ended fin = absurd fin
+report_cut before after counts r (status.BadRequest why) ended fin = absurd fin
+report_cut before after counts r (status.Refuted place) ended fin = absurd fin
+report_cut before after counts r (status.TooLarge name) ended fin = absurd fin
+
+pub check_told : (w : World) (net : List ℕ) (r : Report) → IsChecked w net r → (s : Status) → IsReported w.before w.after w.output_faults r s → CheckEnds w net s
+check_told w net r checked status.Ok is = (r, checked, is.0, is.1)
+check_told w net r checked status.Usage is = absurd is
+check_told w net r checked status.ReadFault is = absurd is
+check_told w net r checked status.WriteFault is = record { report = r; checked = checked; rose = is.0; part = is.1 }
+check_told w net r checked (status.BadNetwork file line fault) is = absurd is
+check_told w net r checked status.Faulty is = (r, checked, is.0, is.1)
+check_told w net r checked (status.BadLine line) is = absurd is
+check_told w net r checked status.NoMemory is = absurd is
+check_told w net r checked (status.BadRequest why) is = absurd is
+check_told w net r checked (status.Refuted place) is = absurd is
+check_told w net r checked (status.TooLarge name) is = absurd is

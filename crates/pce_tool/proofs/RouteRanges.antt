@@ -14,7 +14,7 @@ use Rattle.client_laws.proofs.Written.{IsInRange}
 use Rattle.pce_tool.specs.declared.route.Route.{Route}
 use Rattle.pce_tool.specs.Networks.{question_of}
 use Rattle.pce_tool.specs.Run.{Command, command_of}
-use Rattle.pce_tool.specs.Tasks.{Blind, Bulk, Path, Play, are_alike, are_different, count_in, domain_in, domains_in, is_sequence, network_task, path_in, path_task, route_along, route_by, route_in, route_up, sequence_most, task_of, task_or, word_below}
+use Rattle.pce_tool.specs.Tasks.{Blind, Bulk, Check, Path, Play, are_alike, are_different, count_in, domain_in, domains_in, is_sequence, network_task, path_in, path_task, route_along, route_by, route_in, route_up, sequence_most, task_of, task_or, word_below}
 
 -- what is only found where a test holds, and where it fails
 where_holds : {Y : Type 0} (b : Bool) (o : Option Y) (y : Y) → (if b then o else None) ≡ Some y → (b ≡ true) × (o ≡ Some y)
@@ -90,19 +90,20 @@ route_in_range source target words r is =
 
 -- ---- all words
 
-no_file : (net word : List ℕ) (r : Route) (plays blinds bulks : Bool) (o : Option ℕ) →
-    (if plays then Some (Play word) else (if blinds then Some (Blind word) else (if bulks then (o >>= λ n. Some (Bulk n)) else None))) ≡ Some (Path net r) → ⊥
-no_file net word r true blinds bulks o is = cc
-no_file net word r false true bulks o is = cc
-no_file net word r false false false o is = cc
-no_file net word r false false true None is = cc
-no_file net word r false false true (Some n) is = cc
+no_file : (net word : List ℕ) (r : Route) (plays blinds bulks checks : Bool) (o : Option ℕ) →
+    (if plays then Some (Play word) else (if blinds then Some (Blind word) else (if bulks then (o >>= λ n. Some (Bulk n)) else (if checks then Some (Check word) else None)))) ≡ Some (Path net r) → ⊥
+no_file net word r true blinds bulks checks o is = cc
+no_file net word r false true bulks checks o is = cc
+no_file net word r false false false true o is = cc
+no_file net word r false false false false o is = cc
+no_file net word r false false true checks None is = cc
+no_file net word r false false true checks (Some n) is = cc
 
 named : (words : List (List ℕ)) (net : List ℕ) (r : Route) → network_task words ≡ Some (Path net r) → IsInRange (question_of r)
 named [] net r is = absurd (cc)
 named (verb ∷ []) net r is = absurd (cc)
 named (verb ∷ word ∷ []) net r is =
-    absurd (no_file net word r (bytes_eq verb (codes "play")) (bytes_eq verb (codes "blind")) (bytes_eq verb (codes "bulk")) (count_in word) is)
+    absurd (no_file net word r (bytes_eq verb (codes "play")) (bytes_eq verb (codes "blind")) (bytes_eq verb (codes "bulk")) (bytes_eq verb (codes "check")) (count_in word) is)
 named (verb ∷ one ∷ source ∷ []) net r is = absurd (cc)
 named (verb ∷ one ∷ source ∷ target ∷ words) net r is =
     let path = where_holds (bytes_eq verb (codes "path")) (path_task one source target words) (Path net r) is in

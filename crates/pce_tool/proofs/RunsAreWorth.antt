@@ -2,7 +2,7 @@
 use Rattle.std.proofs.Common.{◌≡◌, ℕ, List, Option, Some, None, refl}
 use Rattle.dom_edge.specs.Stores.{Files}
 use Rattle.pce_tool.specs.Headline.{RunsAreWorth}
-use Rattle.pce_tool.specs.Tasks.{Task, Blind, Bulk, Domain, Path, Play, task_of}
+use Rattle.pce_tool.specs.Tasks.{Task, Blind, Bulk, Check, Domain, Path, Play, task_of}
 use Rattle.pce_tool.proofs.BlindLemmas.{blinds_are_heard}
 use Rattle.pce_tool.proofs.BulkLemmas.{bulks_are_worth}
 use Rattle.pce_tool.proofs.HeadlineLemmas.{paths_are_worth, plays_are_worth}
@@ -18,3 +18,4 @@ runs_are_worth files words = go (task_of words) refl
     go (Some (Blind net)) is = blinds_are_heard files net
     go (Some (Path net r)) is = paths_are_worth files net r (asked_in_range words net r is)
     go (Some (Bulk n)) is = bulks_are_worth n
+    go (Some (Check net)) is = tt

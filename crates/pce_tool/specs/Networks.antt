@@ -1,5 +1,5 @@
--- How a run over a network ends: the settings in a file; a script that is played, from the input, with topologies or without; a path that a client asks for; or a network that is drawn.
-use Rattle.std.specs.Prelude.{◌≡◌, ◌⊎◌, ◌<◌, ◌≤◌, ℕ, true, false, List, length, Option, Some, None, IfSome}
+-- How a run over a network ends: the settings in a file; a script that is played, from the input, with topologies or without; a path that a client asks for; a network that is drawn; or what is told of its files.
+use Rattle.std.specs.Prelude.{◌≡◌, ◌⊎◌, ◌<◌, ◌≤◌, ℕ, Bool, true, false, List, length, Option, Some, None, IfSome}
 use Rattle.std.specs.Io.KnownBytes.{Appends}
 use Rattle.client_laws.specs.plant_model.Types.{As, NetFault, NetworkParts}
 use Rattle.dom_edge.specs.Stores.{Files}
@@ -8,6 +8,8 @@ use Rattle.plant_text.specs.declared.fault.NetFault.TheVariants.{NoElement}
 use Rattle.plant_text.specs.Networks.{with_path}
 use Rattle.plant_text.specs.Reads.{IsFaulty}
 use Rattle.plant_text.specs.Settings.{is_element}
+use Rattle.network_check.specs.declared.findings.Report.{Report}
+use Rattle.network_check.specs.Findings.{IsReport}
 use Rattle.plant_client.specs.plant_play.transcript.declared.stop.Stop.{Stop}
 use Rattle.plant_client.specs.plant_play.transcript.declared.stop.Stop.TheVariants as stop
 use Rattle.plant_client.specs.plant_play.transcript.Stops.{script_most}
@@ -27,7 +29,7 @@ use Rattle.plant_client.specs.Telling.{told_text}
 use Rattle.pce_tool.specs.declared.route.Route.{Route}
 use Rattle.pce_tool.specs.Parts.{IsFileStatus}
 use Rattle.pce_tool.specs.Run.{Ends}
-use Rattle.pce_tool.specs.Tasks.{Task, Blind, Bulk, Domain, Path, Play}
+use Rattle.pce_tool.specs.Tasks.{Task, Blind, Bulk, Check, Domain, Path, Play}
 
 -- the bytes are no settings, for that reason; a fault of settings has no line
 abbrev pub IsSettingsFault : List ℕ → ℕ → NetFault → Type 0
@@ -194,6 +196,38 @@ BulkEnds w n status.WriteFault = IsCutTally w n
 BulkEnds w n status.NoMemory = WroteNothing w
 BulkEnds w n s = ⊥
 
+-- ---- what is told of a network's files
+
+-- these are what is to be told of the network in the file of that name
+abbrev pub IsChecked : World → List ℕ → Report → Type 0
+IsChecked w net r = IsReport w.files net w.store_faults r
+
+-- it is written
+abbrev pub IsTold : World → List ℕ → Bool → Type 0
+IsTold w net is_faulty = (r : Report) × IsChecked w net r × (r.is_faulty ≡ is_faulty) × Appends w.before w.after r.text
+
+-- a first part of it is written, and the output failed
+pub record IsCutReport (w : World) (net : List ℕ) : Type 0 where
+  pub report : Report
+  pub checked : IsChecked w net report
+  pub rose : HasRisen w.output_faults
+  pub part : AppendsSome w.before w.after report.text
+
+-- the report was written, or the output failed and a first part of it was; the status says whether a file is at fault
+abbrev pub IsReported : Option (List ℕ) → Option (List ℕ) → ℕ × ℕ → Report → Status → Type 0
+IsReported before after counts r status.Ok = (r.is_faulty ≡ false) × Appends before after r.text
+IsReported before after counts r status.Faulty = (r.is_faulty ≡ true) × Appends before after r.text
+IsReported before after counts r status.WriteFault = HasRisen counts × AppendsSome before after r.text
+IsReported before after counts r s = ⊥
+
+-- How a run ends that checks a network: the status says whether a file is at fault. It reads no input.
+abbrev pub CheckEnds : World → List ℕ → Status → Type 0
+CheckEnds w net status.Ok = IsTold w net false
+CheckEnds w net status.Faulty = IsTold w net true
+CheckEnds w net status.WriteFault = IsCutReport w net
+CheckEnds w net status.NoMemory = WroteNothing w
+CheckEnds w net s = ⊥
+
 -- ---- all runs
 
 -- A run of words that are not in the table does nothing.
@@ -204,3 +238,4 @@ Runs w (Some (Play net)) s = PlayEnds w net s
 Runs w (Some (Blind net)) s = BlindEnds w net s
 Runs w (Some (Path net route)) s = PathEnds w net route s
 Runs w (Some (Bulk n)) s = BulkEnds w n s
+Runs w (Some (Check net)) s = CheckEnds w net s

@@ -150,6 +150,7 @@ Ends w c status.ReadFault =
 Ends w c status.WriteFault = IsWriteFault w c
 Ends w c (status.BadNetwork file line fault) =
     WroteNothing w × AtFile w c (λ f. (file ≡ name_of f) × IfFile w.files (name_of f) (λ bytes. IsFaultIn w.files f bytes line fault))
+Ends w c status.Faulty = ⊥
 Ends w c (status.BadLine line) = ⊥
 Ends w c status.NoMemory = WroteNothing w
 Ends w c (status.BadRequest why) = WroteNothing w × IsBadRequest w c why

@@ -9,6 +9,7 @@ number_of status.Usage = 1
 number_of status.ReadFault = 2
 number_of status.WriteFault = 3
 number_of (status.BadNetwork file line fault) = 4
+number_of status.Faulty = 4
 number_of (status.BadLine line) = 5
 number_of status.NoMemory = 6
 number_of (status.BadRequest why) = 7

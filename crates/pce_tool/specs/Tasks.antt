@@ -12,13 +12,14 @@ use Rattle.plant_client.specs.Requests.{requests_most}
 use Rattle.pce_tool.specs.declared.route.Route.{Route}
 use Rattle.pce_tool.specs.Run.{Command, command_of}
 
--- a command over one domain; a script on a network, or on one without topologies; a path that a client of a network asks for; or so many requests over a drawn network
+-- a command over one domain; a script on a network, or on one without topologies; a path that a client of a network asks for; so many requests over a drawn network; or what is to be told of a network's files
 pub data Task : Type 0 where
   Domain : Command → Task
   Play : List ℕ → Task
   Blind : List ℕ → Task
   Path : List ℕ → Route → Task
   Bulk : ℕ → Task
+  Check : List ℕ → Task
 
 -- ---- the words of a path
 
@@ -107,7 +108,8 @@ abbrev pub network_task : List (List ℕ) → Option Task
 network_task (verb ∷ word ∷ []) =
     if bytes_eq verb (codes "play") then Some (Play word)
     else (if bytes_eq verb (codes "blind") then Some (Blind word)
-    else (if bytes_eq verb (codes "bulk") then bulk_task word else None))
+    else (if bytes_eq verb (codes "bulk") then bulk_task word
+    else (if bytes_eq verb (codes "check") then Some (Check word) else None)))
 network_task (verb ∷ net ∷ source ∷ target ∷ words) = if bytes_eq verb (codes "path") then path_task net source target words else None
 network_task words = None
 
@@ -123,4 +125,5 @@ task_of words = task_or (network_task words) (command_of words)
 abbrev pub LeavesInput : Option Task → Type 0
 LeavesInput (Some (Path net route)) = Unit {0}
 LeavesInput (Some (Bulk n)) = Unit {0}
+LeavesInput (Some (Check net)) = Unit {0}
 LeavesInput task = ⊥

@@ -4,6 +4,7 @@ pub(crate) mod answer;
 pub(crate) mod blind;
 pub(crate) mod bulk;
 pub(crate) mod certify;
+pub(crate) mod check;
 pub(crate) mod pair;
 pub(crate) mod pair_certify;
 pub(crate) mod pair_verify;

@@ -25,6 +25,8 @@ pub enum Status {
         line: u32,
         fault: NetFault,
     },
+    /// A file of a network that is checked is at fault.
+    Faulty,
     /// This line of the input, from 1, is outside the form.
     BadLine(u32),
     NoMemory,
@@ -46,7 +48,7 @@ impl Status {
             Status::Usage => 1,
             Status::ReadFault => 2,
             Status::WriteFault => 3,
-            Status::BadNetwork { .. } => 4,
+            Status::BadNetwork { .. } | Status::Faulty => 4,
             Status::BadLine(_) => 5,
             Status::NoMemory => 6,
             Status::BadRequest(_) => 7,
@@ -66,6 +68,7 @@ impl fmt::Display for Status {
             Status::BadNetwork { file, line, fault } => {
                 write!(f, "bad network {} {line} {fault}", file.as_str())
             }
+            Status::Faulty => write!(f, "faults found"),
             Status::BadLine(line) => write!(f, "bad line {line}"),
             Status::NoMemory => write!(f, "no memory"),
             Status::BadRequest(why) => write!(f, "bad request {why}"),

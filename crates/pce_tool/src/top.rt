@@ -6,7 +6,7 @@ ghost use Rattle.pce_tool.specs.Tasks.{LeavesInput, bulk_task, count_in, path_in
 ghost use Rattle.pce_tool.specs.Worlds.{world};
 
 use crate::commands::{
-    answer, blind, bulk, certify, pair, pair_certify, pair_verify, path, play, verify,
+    answer, blind, bulk, certify, check, pair, pair_certify, pair_verify, path, play, verify,
 };
 use crate::count::count_of;
 use crate::route::path_of;
@@ -65,6 +65,9 @@ fn run_over<S: Store, I: Source, K: Sink>(
     }
     if verb == "bulk" {
         return run_bulk(alloc, word, store, input, out);
+    }
+    if verb == "check" {
+        return check::run(alloc, word, store, input, out);
     }
     Status::Usage
 }

@@ -1,0 +1,10 @@
+pub mod Forming
+pub mod Kinding
+pub mod Looking
+pub mod Passing
+pub mod Peers
+pub mod Placing
+pub mod Reading
+pub mod Steps
+pub mod Shortness
+pub mod Wording

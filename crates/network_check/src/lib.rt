@@ -1,0 +1,22 @@
+//! What is to be told of the files of a network before it is served: each file that is at fault, and what no rule sees.
+#![tactic(auto)]
+
+mod breaches;
+mod compare;
+mod documents;
+mod faults;
+mod fields;
+mod findings;
+mod forms;
+mod kinds;
+mod looks;
+mod meeting;
+mod pairs;
+mod places;
+mod rows;
+mod settings;
+mod slots;
+mod told;
+mod warnings;
+
+pub use findings::{Report, check};
