@@ -95,15 +95,15 @@ module _ {X : Type 0} (p : X → Bool) where
       by false same taken left = behind (left same)
 
 module _ {X : Type 0} (p : X → Bool) where
+  abbrev First : X → List X → List X → Type 0
+  First z zs xs = (a : List X) × (b : List X) × (xs ≡ a ++ z ∷ b) × (p z ≡ true) × (filter p b ≡ zs)
+
   -- the first that is kept
-  pub filter_first : (xs : List X) (z : X) (zs : List X) → filter p xs ≡ z ∷ zs → (a : List X) × (b : List X) × (xs ≡ a ++ z ∷ b) × (p z ≡ true) × (filter p b ≡ zs)
+  pub filter_first : (xs : List X) (z : X) (zs : List X) → filter p xs ≡ z ∷ zs → First z zs xs
   filter_first [] z zs is = absurd (let no : ⊥ = cc in no)
   filter_first (x ∷ xs) z zs is = by (p x) refl is (filter_first xs z zs)
     where
-      abbrev First : List X → Type 0
-      First ys = (a : List X) × (b : List X) × (ys ≡ a ++ z ∷ b) × (p z ≡ true) × (filter p b ≡ zs)
-
-      by : (b : Bool) → p x ≡ b → cond b (x ∷ filter p xs) (filter p xs) ≡ z ∷ zs → (filter p xs ≡ z ∷ zs → First xs) → First (x ∷ xs)
+      by : (b : Bool) → p x ≡ b → cond b (x ∷ filter p xs) (filter p xs) ≡ z ∷ zs → (filter p xs ≡ z ∷ zs → First z zs xs) → First z zs (x ∷ xs)
       by true kept same later =
           let heads : x ≡ z = cc in
           let tails : filter p xs ≡ zs = cc in

@@ -1,6 +1,7 @@
 -- What a session writes is a first part of what the run put for its peer.
-use Rattle.std.proofs.Common.{◌≡◌, ◌∙◌, ◌⊎◌, ◌&&◌, ◌==◌, inl, inr, ℕ, Bool, true, false, cond, eq-eqb, eqb-eq, List, [], ◌∷◌, ◌++◌, append-nil, append_assoc, drop, map, take, option_map, Option, Some, None, Ok, ap, refl, sym, subst}
+use Rattle.std.proofs.Common.{◌≡◌, ◌≢◌, ◌∙◌, ◌⊎◌, ◌&&◌, ◌==◌, inl, inr, ℕ, Bool, true, false, cond, eq-eqb, List, [], ◌∷◌, ◌++◌, append-nil, append_assoc, drop, map, take, option_map, Option, Some, None, Ok, ap, refl, sym, subst}
 use Rattle.std.specs.Io.KnownBytes.{Appends}
+use Rattle.std.proofs.lemmas.Bool.{eqb-true}
 use Rattle.std.proofs.lemmas.List.{append_cancel_left, map-append, take-append-drop}
 use Rattle.dom_edge.specs.Heeding.{Sides}
 use Rattle.dom_edge.specs.Streams.{Writing}
@@ -106,21 +107,17 @@ module _ (n : NetworkParts) (i : ℕ) where
         by : (b : Bool) → (j == i) ≡ b → cond b Drains Stays ≡ Drains → IsOpen (e ∷ older)
         by true same here =
             some_open holder (outlet i (e ∷ older))
-            (drains_hand_out_all wire n e older t run i holder (is ∙ ap (λ (k : ℕ). event.Drain k holder) (eqb-eq j i same)) accepted)
+            (drains_hand_out_all wire n e older t run i holder (is ∙ ap (λ (k : ℕ). event.Drain k holder) (eqb-true j i same)) accepted)
         by false same here = absurd (let no : ⊥ = cc in no)
+
+    no_drain : (b : Bool) (turn : ConnectionChange) → turn ≢ Drains → cond b turn Stays ≡ Drains → ⊥
+    no_drain true turn other is = other is
+    no_drain false turn other is = let no : ⊥ = cc in no
 
     drains_open : (v : Event) → e.event ≡ v → turn_for i v ≡ Drains → IsOpen (e ∷ older)
     drains_open (event.Drain j holder) is turn = drain_open j holder is turn
-    drains_open (event.Open j holder) is turn = absurd (opens_none (j == i) turn)
-      where
-        opens_none : (b : Bool) → cond b (Opens holder) Stays ≡ Drains → ⊥
-        opens_none true no = cc
-        opens_none false no = cc
-    drains_open (event.Shut j) is turn = absurd (shuts_none (j == i) turn)
-      where
-        shuts_none : (b : Bool) → cond b Shuts Stays ≡ Drains → ⊥
-        shuts_none true no = cc
-        shuts_none false no = cc
+    drains_open (event.Open j holder) is turn = absurd (no_drain (j == i) (Opens holder) (λ same. cc same) turn)
+    drains_open (event.Shut j) is turn = absurd (no_drain (j == i) Shuts (λ same. cc same) turn)
     drains_open v is turn = absurd (let no : ⊥ = cc in no)
 
   used_open : (e : Entry) (older : List Entry) (t : Plant) → Run wire n (e ∷ older) t → is_at i (done_by e) ≡ true → IsOpen (e ∷ older)
