@@ -29,19 +29,12 @@ use Rattle.plant_model.specs.declared.outcome.Refused.TheVariants.{NoSuchPeer}
 use Rattle.transcript.specs.Lines.{answer_line}
 use Rattle.ted_watch.specs.declared.shown.Shown.{Shown}
 use Rattle.server_loops.specs.Charts.{Asks, Call, Charted, Current, Did, Mapped, current_of}
-use Rattle.server_loops.specs.Desks.{IsOwnLoad}
 use Rattle.server_loops.specs.Operating.{Context, Does, DoesAsked, DoesEvent, DoesShut, IsEndOf, IsFirstPart, Loads, Past, Publishes, ShowsMapped, Progress, WithFile, Work, is_done, line_most, past, shown_by}
 use Rattle.server_loops.specs.OperatorSteps.{Acted, Asked, DoesFile, DoesTask, DoesText, EndsAs, answered, Goes, IsBegun, IsFile, IsPartDone, Refuses, shut_task, task_of, text_of}
 use Rattle.server_loops.specs.Texts.{bad_network_text, fault_text, read_fault_text, too_large_text}
 use Rattle.server_loops.specs.declared.lines.Task.{Task}
-use Rattle.server_loops.specs.declared.lines.Task.TheVariants.{Make}
 use Rattle.server_loops.specs.declared.operating.Operated.{Operated}
 use Rattle.server_loops.specs.declared.operating.Operated.TheVariants.{End, ReadFault, Turns, Spent, NoMemory}
-
--- an event of a task loads nothing
-abbrev MadeIsOwn : Task → Type 0
-MadeIsOwn (Make e) = IsOwnLoad e
-MadeIsOwn other = Unit {0}
 
 -- ---- work
 
@@ -402,17 +395,6 @@ pub asked_goes_task : (x : Context) (number : ℕ) (e : OperatorLine) (t : Task)
 asked_goes_task x number e t a b r p q spent before after is goes =
     goes_as (DoesTask x number (task_of e) a b) (DoesAsked x number (Some (Some e)) a b) (asked_task x number e a b) r p q spent before after
     (subst (λ (k : Task). Goes (DoesTask x number k a b) r p q spent before after) (sym is) goes)
-
--- a line asks for an event that loads nothing
-pub made_is_own : (e : OperatorLine) (f : Event) → task_of e ≡ Make f → IsOwnLoad f
-made_is_own (line.Load at name) f is = absurd (cc is)
-made_is_own (line.Change at name) f is = absurd (cc is)
-made_is_own line.Stop f is = absurd (cc is)
-made_is_own (line.Show subject) f is = absurd (cc is)
-made_is_own (line.Shut None) f is = absurd (cc is)
-made_is_own (line.Shut (Some peer)) f is = subst (λ (t : Task). MadeIsOwn t) is tt
-made_is_own (line.Break u v) f is = subst (λ (t : Task). MadeIsOwn t) is tt
-made_is_own (line.Write at name) f is = absurd (cc is)
 
 -- an event is made, and told or not
 pub event_told : (e : Event) (number : ℕ) (answer : Result Outcome Refused) (r : Result (Unit {0}) Operated) (old new : Charted) (list : List Shown) (before after : List ℕ) → Acted e (Ok answer) old new → OnOk r (after ≡ before ++ answer_line number answer) → IfErr r (λ (end : Operated). end ≡ NoMemory) → Goes (DoesEvent e number) r (past old list) (past new list) new.spent before after

@@ -6,7 +6,7 @@ use Rattle.server_loops.specs.Operating.{context, progress}
 use Rattle.server_loops.specs.OperatorSteps.{DoesFile, DoesTask, Goes}
 use Rattle.server_loops.specs.Texts.{bad_line_text}
 use Rattle.server_loops.specs.declared.lines.Task.TheVariants.{File, Make, NoPeer, Nothing}
-use Rattle.server_loops.proofs.Doing.{asked_goes_task, made_is_own, said_or}
+use Rattle.server_loops.proofs.Doing.{asked_goes_task, said_or}
 use Rattle.server_loops.proofs.lines.do_asked.Goals as goal
 
 pub returns-in-File-clause-goes : goal.returns-in-File-clause-goes

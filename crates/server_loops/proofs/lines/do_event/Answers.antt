@@ -1,7 +1,4 @@
-use Rattle.std.proofs.Common.{refl}
-use Rattle.std.proofs.lemmas.Result.{err_from_is_err_and}
-use Rattle.server_loops.specs.Operating.{DoesEvent}
-use Rattle.server_loops.proofs.Doing.{acted_out, event_told}
+use Rattle.server_loops.proofs.Doing.{event_told}
 use Rattle.server_loops.proofs.lines.do_event.Goals as goal
 
 pub returns-clause-goes : goal.returns-clause-goes
