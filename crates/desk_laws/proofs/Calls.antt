@@ -21,7 +21,7 @@ use Rattle.server_loops.specs.Desks.{Answer, Call, call}
 use Rattle.server_loops.specs.Sessions.{drained, drained_by}
 use Rattle.server_loops.specs.declared.desks.DeskRefused.TheVariants.{Plant, Spent}
 use Rattle.turn_desk.specs.Desks.{desk_call}
-use Rattle.desk_laws.specs.Connections.{at_peer, is_at, is_change}
+use Rattle.desk_laws.specs.Connections.{at_peer, is_at}
 use Rattle.desk_laws.proofs.Streams.{filter_on, stream, turn_stream}
 
 abbrev Events : Type 0

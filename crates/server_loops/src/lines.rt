@@ -2,19 +2,22 @@
 ghost use Rattle.std.specs.Prelude.{◌≡◌, ◌≢◌, ◌≤◌, ◌∷◌, ◌++◌, ◌||◌, [], ℕ, List, None, Some, OnOk, IfErr, codes, false, length, nat_lt, true};
 ghost use Rattle.ted_watch.specs.Watch.{list_of, published};
 ghost use Rattle.ted_watch.specs.declared.shown.Shown.{Shown};
-ghost use Rattle.server_loops.specs.Operating.{AreOfElements, Does, DoesAsked, Says, context, line_most, past, progress};
+ghost use Rattle.server_loops.specs.Desks.{IsOwnLoad};
+ghost use Rattle.server_loops.specs.Operating.{AreOfElements, Does, DoesAsked, DoesEvent, Says, context, line_most, past, progress};
 ghost use Rattle.plant_text.specs.OperatorLines.{line_in};
 ghost use Rattle.server_loops.specs.OperatorSteps.{EndsAs, Goes, IsBegun, task_of, text_of};
 ghost use Rattle.server_loops.specs.Sites.{Stays};
 ghost use Rattle.server_loops.specs.Texts.{bad_line_text, stop_text, too_large_text};
 ghost use Rattle.server_loops.specs.declared.operating.Operated.TheVariants.{NoMemory};
 
+use crate::asking::act;
 use crate::charts::Chart;
-use crate::loading::{FileLine, do_file};
+use crate::loading::{FileLine, do_file, tell_answer};
 use crate::operating::Operated;
 use crate::texts::{write_too_large, write_words};
 use dom_base::{As, Text};
 use dom_edge::Store;
+use plant_model::{Event, Refused};
 use plant_text::{LineError, Network, OperatorLine, read_operator_line};
 use std::alloc::Global;
 use std::sync::Wait;
@@ -102,11 +105,17 @@ impl Begun {
     }
 }
 
-// What a line asks for: a file of an element, by whether it has changes; that serving ends; or nothing that is done here.
+// What a line asks to be done.
 #[derive(Drop)]
-pub(crate) enum Task {
+enum Task {
+    // a topology is loaded from a file of an element: its own text, or changes to the current one
     File(bool, As, Text),
+    Make(Event),
+    // the settings have no peer of that name
+    NoPeer,
+    // serving is to end
     Stop,
+    // it is not done here
     Nothing,
 }
 
@@ -116,10 +125,11 @@ fn task_of(asked: OperatorLine) -> Task
     match asked {
         OperatorLine::Load(at, name) => Task::File(false, at, name),
         OperatorLine::Change(at, name) => Task::File(true, at, name),
+        OperatorLine::Shut(Some(peer)) => Task::Make(Event::Shut(peer)),
+        OperatorLine::Shut(None) => Task::NoPeer,
+        OperatorLine::Break(one, other) => Task::Make(Event::Break(one, other)),
         OperatorLine::Stop => Task::Stop,
         OperatorLine::Show(_) => Task::Nothing,
-        OperatorLine::Shut(_) => Task::Nothing,
-        OperatorLine::Break(..) => Task::Nothing,
         OperatorLine::Write(..) => Task::Nothing,
     }
 }
@@ -154,6 +164,22 @@ fn do_stop<D: Chart>(desk: &mut D, number: u32, into: &mut Vec<u8>) -> Result<()
     }
 }
 
+// Makes an event, and tells its answer.
+fn do_event<D: Chart>(
+    alloc: Global,
+    desk: &mut D,
+    number: u32,
+    event: Event,
+    into: &mut Vec<u8>,
+) -> Result<(), Operated>
+    requires own { IsOwnLoad event }
+    ensures goes { (list : List Shown) → Goes (DoesEvent event number) result (past (D.charted desk.old) list) (past (D.charted desk.new) list) (D.charted desk.new).spent into.old.items into.new.items }
+    ensures stays { Stays D.is_at desk.old desk.new }
+{
+    let answer = act(desk, event)?;
+    tell_answer(alloc, number, &answer, into)
+}
+
 // Does what a line says.
 fn do_asked<T: Store, D: Chart, R: Wait + Drop>(
     alloc: Global,
@@ -186,6 +212,8 @@ fn do_asked<T: Store, D: Chart, R: Wait + Drop>(
             do_file(alloc, desk, store, network, publisher, line, into)
         }
         Task::Stop => do_stop(desk, number, into),
+        Task::Make(event) => do_event(alloc, desk, number, event, into),
+        Task::NoPeer => tell_answer(alloc, number, &Err(Refused::NoSuchPeer), into),
         Task::Nothing => tell_bad_line(number, into),
     }
 }

@@ -17,7 +17,7 @@ use crate::texts::{write_bad_network, write_too_large, write_words};
 use dom_base::{As, Bytes};
 use dom_edge::{Store, StoreError};
 use network_files::{FileError, changed_of, changes_of, topology_of};
-use plant_model::{Outcome, Refused};
+use plant_model::{Event, Outcome, Refused};
 use plant_text::Network;
 use std::alloc::Global;
 use std::sync::Wait;
@@ -47,8 +47,8 @@ fn is_done(answer: &Result<Outcome, Refused>) -> bool
     }
 }
 
-// What came of an event.
-fn tell_answer(
+/// What came of an event.
+pub(crate) fn tell_answer(
     alloc: Global,
     number: u32,
     answer: &Result<Outcome, Refused>,
@@ -78,7 +78,7 @@ fn load<D: Chart, R: Wait + Drop>(
     ensures elements { AreOfElements network.now (published publisher.new) }
     ensures list { list_of publisher.new ≡ list_of publisher.old }
 {
-    let answer = act(desk, line.at, topology)?;
+    let answer = act(desk, Event::Load(line.at, topology))?;
     publish_loaded(desk, network, publisher, line.at, is_done(&answer))?;
     tell_answer(alloc, line.number, &answer, into)
 }

@@ -66,6 +66,14 @@ fn stand_in_line<R: Wait + Clock>(
     }
 }
 
+// The peer whose connection the act shuts.
+fn shut_by(act: &Act) -> Option<u32> {
+    match act {
+        Act::Do(Event::Shut(peer)) => Some(*peer),
+        _ => None,
+    }
+}
+
 // Behind a turn.
 fn step_on<R: Wait + Clock>(
     rt: &R,
@@ -113,10 +121,16 @@ impl<R: Wait + Clock> TurnDesk<R> {
         }
     }
 
-    // Rings whom a turn of this desk stirred; and this desk's own session, where that is not to wait before it takes more.
-    fn ring(&self, stirred: &Stirred, rest: Rest) {
+    // Rings whom a turn of this desk stirred; the session of another whose connection it shut; and this desk's own session, where that
+    // is not to wait before it takes more.
+    fn ring(&self, stirred: &Stirred, rest: Rest, shut: Option<u32>) {
         if let Some(bells) = &self.bells {
             bells.ring(stirred, self.own);
+            if let Some(peer) = shut
+                && self.own != Some(peer)
+            {
+                bells.ring_peer(peer);
+            }
             if let (Rest::Backlog, Some(peer)) = (rest, self.own) {
                 bells.ring_peer(peer);
             }
@@ -139,12 +153,12 @@ impl<R: Wait + Clock> TurnDesk<R> {
         requires { MayDo self.old.seat (Turn act) }
         ensures { IsTurnTelling act result (stand_of self.old) (stand_of self.new) }
     {
-        let is_large = is_large(&act);
+        let (is_large, shut) = (is_large(&act), shut_by(&act));
         stand_in_line(&self.rt, &self.bells, &mut self.place, is_large);
         match self.enter(KeptAct::Turn(act)) {
             Ok(answer) => {
                 let turn = turned_in(answer);
-                self.ring(&turn.stirred, turn.rest);
+                self.ring(&turn.stirred, turn.rest, shut);
                 let has_more = leaves_more(&turn.acted, is_large, turn.rest);
                 step_on(&self.rt, &self.bells, &mut self.place, has_more);
                 Ok((turn.acted, turn.rest))
