@@ -198,7 +198,7 @@ hands_tell s es own unended legal among whole =
     let hs : List HandedOut = hands_in es in
     let n : ℕ = s.tape.handed in
     let parts : AllByRecursion (HasPart n hs) own = all_by (λ (h : HandedOut). Contains hs h) (HasPart n hs) own (λ x. has_part n hs x (hands_whole s es legal) (ends_whole s es legal)) among in
-    let none : n ≡ n + length {A = Told} [] = omega arith in
+    let none : n ≡ n + 0 = omega arith in
     let next : AreNext [] own hs = are_next n hs own [] (told_of hs) refl (subst (λ (k : ℕ). AreWhole k own) none whole) parts in
     let says : AllByRecursion (SaysEnd last) own = all_by (λ (h : HandedOut). Contains hs h) (SaysEnd last) own (λ x. all_has (SaysEnd last) hs x (says_over s es legal)) among in
     let over : (why : TapeEnd) → end_told own ≡ Some why → IsOver last why = last_has (IsOver last) own says in
