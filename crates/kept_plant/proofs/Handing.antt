@@ -1,7 +1,9 @@
 -- Hands that begin each where the one before ended leave nothing out.
 use Rattle.std.proofs.Common.{◌≡◌, ◌∙◌, ◌⊎◌, ℕ, zero, suc, ◌+◌, ◌≤◌, ◌<◌, List, [], ◌∷◌, ◌++◌, length, map, Option, Some, None, inl, inr, refl, ap, subst, sym, append_assoc, append-nil, length-append, arith}
-use Rattle.std.specs.List.{AllByRecursion, cons_option, flat_map}
+use Rattle.std.specs.Prelude.{Contains}
+use Rattle.std.specs.List.{AllByRecursion, cons_option}
 use Rattle.std.proofs.lemmas.List.{map-append}
+use Rattle.std.proofs.lemmas.List.Elements.{Contains-append_cases, Contains-append_left, Contains-append_right, Contains-push, Contains-push_cases}
 use Rattle.event_tape.specs.Hands.{AreWhole, told_of}
 use Rattle.event_tape.specs.Tapes.{Taped, emptied, ended_by, event_of, handed_of}
 use Rattle.event_tape.specs.declared.tape.Handed.{Handed as HandedOut}
@@ -20,6 +22,22 @@ use Rattle.kept_plant.specs.declared.acts.KeptAnswer.{KeptAnswer}
 use Rattle.kept_plant.specs.declared.acts.KeptAnswer.TheVariants.{Turned, Handed, Stopped}
 use Rattle.kept_plant.proofs.Tells.{ended_tapes, entry_counted, open_tapes}
 
+-- ---- lists
+
+contains_one : {X : Type 0} (y x : X) → Contains (y ∷ []) x → y ≡ x
+contains_one y x is = elim (Contains-push_cases [] y x is) [ inl none ↦ (let below : none.0 < 0 = none.1 in absurd (omega arith)) | inr same ↦ same ]
+
+-- of two ways in which a list begins, as long as each other
+same_fronts : {X : Type 0} (xs ys us vs : List X) → xs ++ us ≡ ys ++ vs → length xs ≡ length ys → (xs ≡ ys) × (us ≡ vs)
+same_fronts [] [] us vs is long = (refl, is)
+same_fronts [] (y ∷ ys) us vs is long = absurd (omega (arith, long))
+same_fronts (x ∷ xs) [] us vs is long = absurd (omega (arith, long))
+same_fronts (x ∷ xs) (y ∷ ys) us vs is long =
+    let head : x ≡ y = cc in
+    let tail : xs ++ us ≡ ys ++ vs = cc in
+    let rest = same_fronts xs ys us vs tail (omega (arith, long)) in
+    (ap (λ (z : _). z ∷ xs) head ∙ ap (λ (zs : List _). y ∷ zs) rest.0, rest.1)
+
 -- ---- lists of hands
 
 -- where a tape had ended, nothing comes behind
@@ -27,52 +45,71 @@ abbrev pub EndWhole : List HandedOut → Type 0
 EndWhole [] = Unit {0}
 EndWhole (h ∷ hs) = ((why : TapeEnd) → h.ended ≡ Some why → told_of hs ≡ []) × EndWhole hs
 
--- those among them begin at its number or later
-begins_later : (n : ℕ) (x : HandedOut) (xs hs : List HandedOut) → AreWhole n hs → AreAmong (x ∷ xs) hs → n ≤ x.before
-begins_later n x xs [] whole among = absurd among
-begins_later n x xs (h ∷ hs) whole (inl here) = let same : x.before ≡ n = ap (λ (y : HandedOut). y.before) here.0 ∙ whole.0 in omega (arith, same)
-begins_later n x xs (h ∷ hs) whole (inr there) = omega (arith, begins_later (n + length h.items) x xs hs whole.1 there)
+-- the part that one of them hands out stands at its number, and nothing behind it where the tape had ended
+pub record HasPart (n : ℕ) (hs : List HandedOut) (x : HandedOut) : Type 0 where
+  pub front : List Told
+  pub back : List Told
+  pub is : told_of hs ≡ front ++ (x.items ++ back)
+  pub begins : x.before ≡ n + length front
+  pub ends : (why : TapeEnd) → x.ended ≡ Some why → back ≡ []
 
-no_items : (items : List Told) → length items ≡ 0 → items ≡ []
-no_items [] none = refl
-no_items (i ∷ items) none = absurd (omega (arith, none))
+first_part : (n : ℕ) (h : HandedOut) (hs : List HandedOut) → h.before ≡ n → ((why : TapeEnd) → h.ended ≡ Some why → told_of hs ≡ []) → HasPart n (h ∷ hs) h
+first_part n h hs here ends = record { front = []; back = told_of hs; is = refl; begins = omega (arith, here); ends = ends }
 
-pub record AreFirst (own hs : List HandedOut) : Type 0 where
+later_part : (n : ℕ) (h x : HandedOut) (hs : List HandedOut) → HasPart (n + length h.items) hs x → HasPart n (h ∷ hs) x
+later_part n h x hs p = record {
+  front = h.items ++ p.front;
+  back = p.back;
+  is = ap (λ (ts : List Told). h.items ++ ts) p.is ∙ sym (append_assoc h.items p.front (x.items ++ p.back));
+  begins = omega (arith, p.begins, length-append h.items p.front);
+  ends = p.ends;
+}
+
+pub has_part : (n : ℕ) (hs : List HandedOut) (x : HandedOut) → AreWhole n hs → EndWhole hs → Contains hs x → HasPart n hs x
+has_part n [] x whole ends is = let below : is.0 < 0 = is.1 in absurd (omega arith)
+has_part n (h ∷ hs) x whole ends is =
+    elim (Contains-append_cases (h ∷ []) hs x is) [
+      | inl here ↦ subst (λ (y : HandedOut). HasPart n (h ∷ hs) y) (contains_one h x here) (first_part n h hs whole.0 ends.0)
+      | inr there ↦ later_part n h x hs (has_part (n + length h.items) hs x whole.1 ends.1 there)
+    ]
+
+-- what holds of each holds of one that stands in the list
+all_has : (P : HandedOut → Type 0) (hs : List HandedOut) (x : HandedOut) → AllByRecursion P hs → Contains hs x → P x
+all_has P [] x all is = let below : is.0 < 0 = is.1 in absurd (omega arith)
+all_has P (h ∷ hs) x all is = elim (Contains-append_cases (h ∷ []) hs x is) [ inl here ↦ subst P (contains_one h x here) all.0 | inr there ↦ all_has P hs x all.1 there ]
+
+all_by : (P Q : HandedOut → Type 0) (own : List HandedOut) → ((x : HandedOut) → P x → Q x) → AllByRecursion P own → AllByRecursion Q own
+all_by P Q [] by all = tt
+all_by P Q (x ∷ xs) by all = (by x all.0, all_by P Q xs by all.1)
+
+-- these hands come behind what was had, and this is left
+pub record AreNext (had : List Told) (own hs : List HandedOut) : Type 0 where
   pub rest : List Told
-  pub is : told_of hs ≡ told_of own ++ rest
+  pub is : told_of hs ≡ had ++ (told_of own ++ rest)
   pub all : (why : TapeEnd) → end_told own ≡ Some why → rest ≡ []
 
--- one of them is the next
-here_first : (x h : HandedOut) (xs hs : List HandedOut) → x ≡ h → ((why : TapeEnd) → h.ended ≡ Some why → told_of hs ≡ []) → AreFirst xs hs → AreFirst (x ∷ xs) (h ∷ hs)
-here_first x h xs hs same whole first = record {
-  rest = first.rest;
-  is = ap (λ (ts : List Told). h.items ++ ts) first.is ∙ sym (append_assoc h.items (told_of xs) first.rest) ∙ ap (λ (y : HandedOut). (y.items ++ told_of xs) ++ first.rest) (sym same);
-  all = ends xs first.is first.all;
-}
-  where
-    ends : (xs : List HandedOut) → told_of hs ≡ told_of xs ++ first.rest → ((why : TapeEnd) → end_told xs ≡ Some why → first.rest ≡ []) → (why : TapeEnd) → end_told (x ∷ xs) ≡ Some why → first.rest ≡ []
-    ends [] is all why at = sym is ∙ whole why (ap (λ (y : HandedOut). y.ended) (sym same) ∙ at)
-    ends (y ∷ ys) is all why at = all why at
+module _ (n : ℕ) (hs : List HandedOut) where
+  -- one more hand
+  one_next : (had : List Told) (x : HandedOut) (xs : List HandedOut) (p : HasPart n hs x) → told_of hs ≡ (had ++ x.items) ++ p.back → AreNext (had ++ x.items) xs hs → AreNext had (x ∷ xs) hs
+  one_next had x xs p whole next = record {
+    rest = next.rest;
+    is = next.is ∙ append_assoc had x.items (told_of xs ++ next.rest) ∙ ap (λ (ts : List Told). had ++ ts) (sym (append_assoc x.items (told_of xs) next.rest));
+    all = ends xs next.is next.all;
+  }
+    where
+      ends : (xs : List HandedOut) → told_of hs ≡ (had ++ x.items) ++ (told_of xs ++ next.rest) → ((why : TapeEnd) → end_told xs ≡ Some why → next.rest ≡ []) → (why : TapeEnd) → end_told (x ∷ xs) ≡ Some why → next.rest ≡ []
+      ends [] is all why at = (same_fronts (had ++ x.items) (had ++ x.items) next.rest p.back (sym is ∙ whole) refl).1 ∙ p.ends why at
+      ends (y ∷ ys) is all why at = all why at
 
-pub are_first : (n : ℕ) (own hs : List HandedOut) → AreWhole n hs → EndWhole hs → AreAmong own hs → AreWhole n own → AreFirst own hs
-are_first n [] hs whole ends among own_whole = record { rest = told_of hs; is = refl; all = λ why at. absurd (let no : ⊥ = cc in no) }
-are_first n (x ∷ xs) [] whole ends among own_whole = absurd among
-are_first n (x ∷ xs) (h ∷ hs) whole ends (inl here) own_whole =
-    let next : AreWhole (n + length h.items) xs = subst (λ (y : HandedOut). AreWhole (n + length y.items) xs) here.0 own_whole.1 in here_first x h xs hs here.0 ends.0 (are_first (n + length h.items) xs hs whole.1 ends.1 here.1 next)
-are_first n (x ∷ xs) (h ∷ hs) whole ends (inr there) own_whole =
-    let later : n + length h.items ≤ x.before = begins_later (n + length h.items) x xs hs whole.1 there in
-    let none : length h.items ≡ 0 = omega (arith, later, own_whole.0) in
-    let empty : h.items ≡ [] = no_items h.items none in
-    let same : n + length h.items ≡ n = omega (arith, none) in
-    let first : AreFirst (x ∷ xs) hs = are_first n (x ∷ xs) hs (subst (λ (k : ℕ). AreWhole k hs) same whole.1) ends.1 there own_whole in
-    record { rest = first.rest; is = ap (λ (ts : List Told). ts ++ told_of hs) empty ∙ first.is; all = first.all }
-
--- what holds of each of them holds of the last of some
-all_among : (P : HandedOut → Type 0) (own hs : List HandedOut) → AllByRecursion P hs → AreAmong own hs → AllByRecursion P own
-all_among P [] hs all among = tt
-all_among P (x ∷ xs) [] all among = absurd among
-all_among P (x ∷ xs) (h ∷ hs) all (inl here) = (subst P (sym here.0) all.0, all_among P xs hs all.1 here.1)
-all_among P (x ∷ xs) (h ∷ hs) all (inr there) = all_among P (x ∷ xs) hs all.1 there
+  pub are_next : (own : List HandedOut) (had rest : List Told) → told_of hs ≡ had ++ rest → AreWhole (n + length had) own → AllByRecursion (HasPart n hs) own → AreNext had own hs
+  are_next [] had rest is whole parts = record { rest = rest; is = is; all = λ why at. absurd (let no : ⊥ = cc in no) }
+  are_next (x ∷ xs) had rest is whole parts =
+      let p : HasPart n hs x = parts.0 in
+      let long : length p.front ≡ length had = omega (arith, p.begins, whole.0) in
+      let same = same_fronts p.front had (x.items ++ p.back) rest (sym p.is ∙ is) long in
+      let on : told_of hs ≡ (had ++ x.items) ++ p.back = p.is ∙ ap (λ (ts : List Told). ts ++ (x.items ++ p.back)) same.0 ∙ sym (append_assoc had x.items p.back) in
+      let count : n + length had + length x.items ≡ n + length (had ++ x.items) = omega (arith, length-append had x.items) in
+      one_next had x xs p on (are_next xs (had ++ x.items) p.back on (subst (λ (k : ℕ). AreWhole k xs) count whole.1) parts.1)
 
 last_has : (Q : TapeEnd → Type 0) (own : List HandedOut) → AllByRecursion (λ (h : HandedOut). (why : TapeEnd) → h.ended ≡ Some why → Q why) own → (why : TapeEnd) → end_told own ≡ Some why → Q why
 last_has Q [] all why at = absurd (let no : ⊥ = cc in no)
@@ -158,19 +195,51 @@ pub hands_tell : (s : Kept) (es : List (KeptAct × KeptAnswer)) (own : List Hand
 hands_tell s es own unended legal among whole =
     let tells : Tells s es = open_tapes s es unended legal in
     let last : Taped = (replay kept_after s es).tape in
-    let first : AreFirst own (hands_in es) = are_first s.tape.handed own (hands_in es) (hands_whole s es legal) (ends_whole s es legal) among whole in
-    let over : (why : TapeEnd) → end_told own ≡ Some why → IsOver last why = last_has (IsOver last) own (all_among (SaysEnd last) own (hands_in es) (says_over s es legal) among) in
-    let out : handed_in es ++ last.items ≡ told_of own ++ (first.rest ++ last.items) =
-    ap (λ (ts : List Told). ts ++ last.items) (sym (hands_are es) ∙ first.is) ∙ append_assoc (told_of own) first.rest last.items in
+    let hs : List HandedOut = hands_in es in
+    let n : ℕ = s.tape.handed in
+    let parts : AllByRecursion (HasPart n hs) own = all_by (λ (h : HandedOut). Contains hs h) (HasPart n hs) own (λ x. has_part n hs x (hands_whole s es legal) (ends_whole s es legal)) among in
+    let none : n ≡ n + 0 = omega arith in
+    let next : AreNext [] own hs = are_next n hs own [] (told_of hs) refl (subst (λ (k : ℕ). AreWhole k own) none whole) parts in
+    let says : AllByRecursion (SaysEnd last) own = all_by (λ (h : HandedOut). Contains hs h) (SaysEnd last) own (λ x. all_has (SaysEnd last) hs x (says_over s es legal)) among in
+    let over : (why : TapeEnd) → end_told own ≡ Some why → IsOver last why = last_has (IsOver last) own says in
+    let out : handed_in es ++ last.items ≡ told_of own ++ (next.rest ++ last.items) =
+    ap (λ (ts : List Told). ts ++ last.items) (sym (hands_are es) ∙ next.is) ∙ append_assoc (told_of own) next.rest last.items in
     record {
       before = tells.before;
       later = tells.later;
       is = tells.is;
-      rest = map event_of (first.rest ++ last.items);
-      told = sym tells.told ∙ ap (map event_of) out ∙ map-append event_of (told_of own) (first.rest ++ last.items);
+      rest = map event_of (next.rest ++ last.items);
+      told = sym tells.told ∙ ap (map event_of) out ∙ map-append event_of (told_of own) (next.rest ++ last.items);
       ends = tells.ends;
       all = λ why at. (
-        ap (λ (ts : List Told). map event_of (ts ++ last.items)) (first.all why at) ∙ ap (map event_of) (over why at).1,
+        ap (λ (ts : List Told). map event_of (ts ++ last.items)) (next.all why at) ∙ ap (map event_of) (over why at).1,
         (over why at).0,
       );
     }
+
+-- ---- hands of some entries
+
+abbrev Entry : Type 0
+Entry = KeptAct × KeptAnswer
+
+-- the hand of an entry stands among the hands
+hand_is : (es : List Entry) (e : Entry) (h : HandedOut) → hand_of e.0 e.1 ≡ Some h → Contains es e → Contains (hands_in es) h
+hand_is [] e h at is = let below : is.0 < 0 = is.1 in absurd (omega arith)
+hand_is (x ∷ es) e h at is =
+    elim (Contains-append_cases (x ∷ []) es e is) [
+      | inl here ↦ subst (λ (o : Option HandedOut). Contains (cons_option o (hands_in es)) h) (sym (ap (λ (y : Entry). hand_of y.0 y.1) (contains_one x e here) ∙ at)) (Contains-append_left (h ∷ []) (hands_in es) h (Contains-push [] h))
+      | inr there ↦ behind (hand_of x.0 x.1) (hand_is es e h at there)
+    ]
+  where
+    behind : (o : Option HandedOut) → Contains (hands_in es) h → Contains (cons_option o (hands_in es)) h
+    behind None there = there
+    behind (Some g) there = Contains-append_right (g ∷ []) (hands_in es) h there
+
+pub hands_among : (own es : List Entry) → ((e : Entry) → Contains own e → Contains es e) → AreAmong (hands_in own) (hands_in es)
+hands_among [] es of = tt
+hands_among (x ∷ own) es of =
+    by (hand_of x.0 x.1) refl (hands_among own es (λ e is. of e (Contains-append_right (x ∷ []) own e is)))
+  where
+    by : (o : Option HandedOut) → hand_of x.0 x.1 ≡ o → AreAmong (hands_in own) (hands_in es) → AreAmong (cons_option o (hands_in own)) (hands_in es)
+    by None at rest = rest
+    by (Some h) at rest = (hand_is es x h at (of x (Contains-append_left (x ∷ []) own x (Contains-push [] x))), rest)

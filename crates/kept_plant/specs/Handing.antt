@@ -1,6 +1,6 @@
--- Hands that whoever writes a tape has had, among all hands of a history.
-use Rattle.std.specs.Prelude.{◌≡◌, ◌⊎◌, List, [], ◌∷◌, ◌++◌, map, Option, Some, None, IfSome}
-use Rattle.std.specs.List.{filter_map}
+-- Hands that whoever writes a tape has had, of all hands of a history.
+use Rattle.std.specs.Prelude.{◌≡◌, List, [], ◌∷◌, ◌++◌, map, Option, Some, None, Contains}
+use Rattle.std.specs.List.{AllByRecursion, filter_map}
 use Rattle.event_tape.specs.Hands.{AreWhole, told_of}
 use Rattle.event_tape.specs.Tapes.{event_of}
 use Rattle.event_tape.specs.declared.tape.Handed.{Handed as HandedOut}
@@ -19,15 +19,13 @@ abbrev pub hand_of : KeptAct → KeptAnswer → Option HandedOut
 hand_of (Hand empty) (Handed h) = Some h
 hand_of a r = None
 
--- the hands of a history, in order
+-- the hands of entries, in order
 abbrev pub hands_in : List (KeptAct × KeptAnswer) → List HandedOut
 hands_in es = filter_map (λ (e : KeptAct × KeptAnswer). hand_of e.0 e.1) es
 
--- some of them, in their order
+-- each of these stands in the list
 abbrev pub AreAmong : List HandedOut → List HandedOut → Type 0
-AreAmong [] hs = Unit {0}
-AreAmong (x ∷ xs) [] = ⊥
-AreAmong (x ∷ xs) (h ∷ hs) = ((x ≡ h) × AreAmong xs hs) ⊎ AreAmong (x ∷ xs) hs
+AreAmong own hs = AllByRecursion (λ (h : HandedOut). Contains hs h) own
 
 -- how the tape had ended, as the last of these hands says
 abbrev pub end_told : List HandedOut → Option TapeEnd
@@ -46,6 +44,6 @@ pub record HandTells (s : Kept) (es : List (KeptAct × KeptAnswer)) (own : List 
   pub ends : EndsIn (replay kept_after s es).tape.ended (replay kept_after s before).tape later
   pub all : (why : TapeEnd) → end_told own ≡ Some why → (rest ≡ []) × ((replay kept_after s es).tape.ended ≡ Some why)
 
--- hands that begin each where the one before ended, among those of a history from an open tape
+-- hands that begin each where the one before ended, of those of a history from an open tape
 abbrev pub HandsTell : Type 0
 HandsTell = (s : Kept) (es : List (KeptAct × KeptAnswer)) (own : List HandedOut) → s.tape.ended ≡ None → KeptLegal s es → AreAmong own (hands_in es) → AreWhole s.tape.handed own → HandTells s es own

@@ -2,6 +2,7 @@
 pub mod Histories
 pub mod Seats
 pub mod Opened
+pub mod Telling
 pub mod Desks
 pub mod Standings
 pub mod Charts

@@ -2,6 +2,7 @@
 ghost use Rattle.std.specs.Prelude.{◌≡◌};
 ghost use Rattle.turn_desk.specs.Desks.{IsStill, stand_of};
 ghost use Rattle.turn_desk.specs.Seats.{IsHand, IsStop, seat_of};
+ghost use Rattle.turn_desk.specs.Telling.{DeskTells};
 
 use crate::answers::handed_in;
 use crate::desk::TurnDesk;
@@ -34,4 +35,11 @@ impl<R: Wait + Clock> TurnDesk<R> {
             Err(number) => Err(number),
         }
     }
+
+    /// What was handed out through this desk is a first part of what was told at the lock, none left out, none twice, where each hand
+    /// begins where the one before ended: whatever other desks were handed. It is all of it where the last hand says that the tape had
+    /// ended.
+    pub fn hands_tell(&self)
+        ensures { DeskTells (seat_of self.now) }
+    {}
 }
