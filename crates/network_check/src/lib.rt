@@ -2,18 +2,19 @@
 #![tactic(auto)]
 
 mod breaches;
+mod clashes;
 mod compare;
 mod documents;
-mod faults;
 mod fields;
 mod findings;
 mod forms;
+mod keys;
 mod kinds;
 mod looks;
-mod meeting;
 mod pairs;
 mod places;
 mod rows;
+mod sections;
 mod settings;
 mod slots;
 mod told;

@@ -3,108 +3,41 @@ ghost use Rattle.std.specs.Prelude.{◌≡◌, ◌++◌, ◌<◌, ◌^◌, IfOk,
 ghost use Rattle.std.specs.Str.Lines.{lines as lines_of};
 ghost use Rattle.toml.specs.View.{table_view, view};
 ghost use Rattle.network_check.specs.Told.{shown};
-ghost use Rattle.network_check.specs.Faulty.{deny_text, element_text, faulty_text, first_line, header, label_at as called_at, line_at, link_text, parent_link_text, parent_text, parent_value_text, peer_text, row_at as row_in_table, row_fault, settings_fault, tables_text, top_text};
+ghost use Rattle.network_check.specs.Faulty.{first_line, header, label_at as called_at, line_at, parent_text, parent_value_text, row_at as row_in_table, row_fault, settings_fault, tables_text, too_many_text};
+ghost use Rattle.network_check.specs.Columns.{row_text};
+ghost use Rattle.network_check.specs.Stands.{stand};
 
-use crate::faults::fault_words;
-use crate::fields::{DENIAL, ELEMENT, LINK, PARENT, PARENT_LINK, PEER, TOP};
+use crate::keys::value_at;
 use crate::places::{Page, row_line, top_line};
-use crate::rows::{Rows, label_of, tell_rows, tell_table, value_at};
+use crate::rows::{Row, label_of, tell_rows, tell_table};
+use crate::sections::Section;
 use crate::told::{Piece, tell, write_name, write_pieces};
 use dom_base::NoMemory;
+use network_files::fault_words;
 use plant_text::NetFault;
 use std::alloc::Global;
 use toml::{Table, Value};
 
 // ---- tables
 
-fn tell_elements(
-    alloc: Global,
+// A table by itself, or the keys beside the tables.
+fn tell_alone(
     page: &Page<'_>,
-    root: &Table,
+    section: Section,
+    label: &[u8],
+    table: &Table,
     into: &mut Vec<u8>,
 ) -> Result<(), NoMemory>
     requires short { length (lines_of page.now.text.now) < 2 ^ 32 }
-    ensures { OnOk result (into.new.items ≡ into.old.items ++ element_text page.now.file.now page.now.text.now (table_view root.now)) }
+    ensures { OnOk result (into.new.items ≡ into.old.items ++ row_text (stand page.now.file.now page.now.text.now section 0 label.now) (table_view table.now)) }
 {
-    let rows = Rows {
+    let row = Row {
         page: *page,
-        header: b"[[element]]",
-        name: b"element",
-        are_peers: false,
+        section,
+        index: 0,
+        label,
     };
-    tell_rows(alloc, &rows, value_at(root, "element"), &ELEMENT, into)
-}
-
-fn tell_links(
-    alloc: Global,
-    page: &Page<'_>,
-    root: &Table,
-    into: &mut Vec<u8>,
-) -> Result<(), NoMemory>
-    requires short { length (lines_of page.now.text.now) < 2 ^ 32 }
-    ensures { OnOk result (into.new.items ≡ into.old.items ++ link_text page.now.file.now page.now.text.now (table_view root.now)) }
-{
-    let rows = Rows {
-        page: *page,
-        header: b"[[link]]",
-        name: b"link",
-        are_peers: false,
-    };
-    tell_rows(alloc, &rows, value_at(root, "link"), &LINK, into)
-}
-
-fn tell_peers(
-    alloc: Global,
-    page: &Page<'_>,
-    root: &Table,
-    into: &mut Vec<u8>,
-) -> Result<(), NoMemory>
-    requires short { length (lines_of page.now.text.now) < 2 ^ 32 }
-    ensures { OnOk result (into.new.items ≡ into.old.items ++ peer_text page.now.file.now page.now.text.now (table_view root.now)) }
-{
-    let rows = Rows {
-        page: *page,
-        header: b"[[peer]]",
-        name: b"peer",
-        are_peers: true,
-    };
-    tell_rows(alloc, &rows, value_at(root, "peer"), &PEER, into)
-}
-
-fn tell_denials(
-    alloc: Global,
-    page: &Page<'_>,
-    root: &Table,
-    into: &mut Vec<u8>,
-) -> Result<(), NoMemory>
-    requires short { length (lines_of page.now.text.now) < 2 ^ 32 }
-    ensures { OnOk result (into.new.items ≡ into.old.items ++ deny_text page.now.file.now page.now.text.now (table_view root.now)) }
-{
-    let rows = Rows {
-        page: *page,
-        header: b"[[deny]]",
-        name: b"deny",
-        are_peers: false,
-    };
-    tell_rows(alloc, &rows, value_at(root, "deny"), &DENIAL, into)
-}
-
-fn tell_parent_links(
-    alloc: Global,
-    page: &Page<'_>,
-    parent: &Table,
-    into: &mut Vec<u8>,
-) -> Result<(), NoMemory>
-    requires short { length (lines_of page.now.text.now) < 2 ^ 32 }
-    ensures { OnOk result (into.new.items ≡ into.old.items ++ parent_link_text page.now.file.now page.now.text.now (table_view parent.now)) }
-{
-    let rows = Rows {
-        page: *page,
-        header: b"[[parent.link]]",
-        name: b"parent.link",
-        are_peers: false,
-    };
-    tell_rows(alloc, &rows, value_at(parent, "link"), &PARENT_LINK, into)
+    tell_table(&row, table, into)
 }
 
 fn tell_parent_table(
@@ -116,14 +49,9 @@ fn tell_parent_table(
     requires short { length (lines_of page.now.text.now) < 2 ^ 32 }
     ensures { OnOk result (into.new.items ≡ into.old.items ++ parent_text page.now.file.now page.now.text.now (table_view parent.now)) }
 {
-    let rows = Rows {
-        page: *page,
-        header: b"[parent]",
-        name: b"parent",
-        are_peers: false,
-    };
-    tell_table(&rows, 0, b"parent", parent, &PARENT, into)?;
-    tell_parent_links(alloc, page, parent, into)
+    let links = value_at(parent, "link");
+    tell_alone(page, Section::Parent, b"parent", parent, into)?;
+    tell_rows(alloc, page, Section::ParentLinks, links, into)
 }
 
 fn tell_parent(
@@ -149,22 +77,8 @@ fn tell_parent(
     }
 }
 
-// The keys beside the tables.
-fn tell_top(page: &Page<'_>, root: &Table, into: &mut Vec<u8>) -> Result<(), NoMemory>
-    requires short { length (lines_of page.now.text.now) < 2 ^ 32 }
-    ensures { OnOk result (into.new.items ≡ into.old.items ++ top_text page.now.file.now page.now.text.now (table_view root.now)) }
-{
-    let rows = Rows {
-        page: *page,
-        header: b"",
-        name: b"settings",
-        are_peers: false,
-    };
-    tell_table(&rows, 0, b"settings", root, &TOP, into)
-}
-
-// The keys of all tables.
-fn tell_tables(
+/// The keys of all tables.
+pub(crate) fn tell_tables(
     alloc: Global,
     page: &Page<'_>,
     root: &Table,
@@ -173,12 +87,13 @@ fn tell_tables(
     requires short { length (lines_of page.now.text.now) < 2 ^ 32 }
     ensures { OnOk result (into.new.items ≡ into.old.items ++ tables_text page.now.file.now page.now.text.now (table_view root.now)) }
 {
-    tell_elements(alloc, page, root, into)?;
-    tell_links(alloc, page, root, into)?;
-    tell_peers(alloc, page, root, into)?;
-    tell_denials(alloc, page, root, into)?;
+    let elements = value_at(root, "element");
+    tell_rows(alloc, page, Section::Elements, elements, into)?;
+    tell_rows(alloc, page, Section::Links, value_at(root, "link"), into)?;
+    tell_rows(alloc, page, Section::Peers, value_at(root, "peer"), into)?;
+    tell_rows(alloc, page, Section::Denials, value_at(root, "deny"), into)?;
     tell_parent(alloc, page, value_at(root, "parent"), into)?;
-    tell_top(page, root, into)
+    tell_alone(page, Section::Top, b"settings", root, into)
 }
 
 // ---- the first rule that is broken
@@ -250,21 +165,21 @@ fn shown_name(alloc: Global, name: &[u8]) -> Result<Vec<u8>, NoMemory>
     Ok(word)
 }
 
-// A rule that a row breaks.
-fn tell_row_fault<'x>(
+/// A rule that a row breaks.
+pub(crate) fn tell_row_fault<'x>(
     alloc: Global,
     page: &Page<'_>,
     root: &'x Table,
     why: &'x [u8],
     table: &'x str,
-    index: u32,
+    index: usize,
     into: &mut Vec<u8>,
 ) -> Result<(), NoMemory>
     requires short { length (lines_of page.now.text.now) < 2 ^ 32 }
     ensures { OnOk result (into.new.items ≡ into.old.items ++ row_fault page.now.file.now page.now.text.now (table_view root.now) why.now table.now index) }
 {
-    let line = line_of_row(alloc, page.text, table.as_bytes(), index as usize)?;
-    let label = label_at(alloc, root, table, index as usize)?;
+    let line = line_of_row(alloc, page.text, table.as_bytes(), index)?;
+    let label = label_at(alloc, root, table, index)?;
     tell(
         page.file,
         line,
@@ -273,8 +188,27 @@ fn tell_row_fault<'x>(
     )
 }
 
-// The fault that every command tells of the settings.
-fn tell_fault(
+/// A table that has too many rows, or a row with too many shared risk groups.
+pub(crate) fn tell_too_many(
+    alloc: Global,
+    page: &Page<'_>,
+    table: &[u8],
+    into: &mut Vec<u8>,
+) -> Result<(), NoMemory>
+    requires short { length (lines_of page.now.text.now) < 2 ^ 32 }
+    ensures { OnOk result (into.new.items ≡ into.old.items ++ too_many_text page.now.file.now page.now.text.now table.now) }
+{
+    let line = line_of_row(alloc, page.text, table, 0)?;
+    tell(
+        page.file,
+        line,
+        &[Piece::Text(b"too many "), Piece::Name(table)],
+        into,
+    )
+}
+
+/// The fault that every command tells of the settings.
+pub(crate) fn tell_fault(
     alloc: Global,
     page: &Page<'_>,
     root: &Table,
@@ -286,44 +220,22 @@ fn tell_fault(
 {
     match fault {
         NetFault::Shape(table, i) => {
-            tell_row_fault(alloc, page, root, b"shape ", table.as_str(), *i, into)
+            let table = table.as_str();
+            tell_row_fault(alloc, page, root, b"shape ", table, *i as usize, into)
         }
         NetFault::Duplicate(table, i) => {
-            tell_row_fault(alloc, page, root, b"duplicate ", table.as_str(), *i, into)
+            let table = table.as_str();
+            tell_row_fault(alloc, page, root, b"duplicate ", table, *i as usize, into)
         }
         NetFault::Unknown(table, i) => {
-            tell_row_fault(alloc, page, root, b"unknown ", table.as_str(), *i, into)
+            let table = table.as_str();
+            tell_row_fault(alloc, page, root, b"unknown ", table, *i as usize, into)
         }
         NetFault::NoParent(i) => {
-            tell_row_fault(alloc, page, root, b"no parent for ", "element", *i, into)
+            let why = b"no parent for ";
+            tell_row_fault(alloc, page, root, why, "element", *i as usize, into)
         }
-        NetFault::TooMany(table) => {
-            let name = table.as_str().as_bytes();
-            let line = line_of_row(alloc, page.text, name, 0)?;
-            tell(
-                page.file,
-                line,
-                &[Piece::Text(b"too many "), Piece::Name(name)],
-                into,
-            )
-        }
+        NetFault::TooMany(table) => tell_too_many(alloc, page, table.as_str().as_bytes(), into),
         other => tell(page.file, 0, &[Piece::Text(fault_words(other))], into),
     }
-}
-
-// ---- the whole
-
-/// Tells of settings at fault, which are this document: the first rule that they break, and then the keys of all tables.
-pub(crate) fn tell_faulty(
-    alloc: Global,
-    page: &Page<'_>,
-    root: &Table,
-    fault: &NetFault,
-    into: &mut Vec<u8>,
-) -> Result<(), NoMemory>
-    requires short { length (lines_of page.now.text.now) < 2 ^ 32 }
-    ensures { OnOk result (into.new.items ≡ into.old.items ++ faulty_text page.now.file.now page.now.text.now fault.now (table_view root.now)) }
-{
-    tell_fault(alloc, page, root, fault, into)?;
-    tell_tables(alloc, page, root, into)
 }

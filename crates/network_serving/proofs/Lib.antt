@@ -10,3 +10,4 @@ pub mod WatchTurns
 pub mod Workings
 pub mod CrossingParts
 pub mod Crossing
+pub mod RecordLaws

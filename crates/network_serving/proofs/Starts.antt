@@ -1,5 +1,6 @@
 -- Causes of a start, from its parts.
-use Rattle.std.proofs.Common.{◌≡◌, ◌∙◌, ◌⊎◌, inl, inr, ◌+◌, ◌-◌, ◌^◌, ◌≤◌, ◌<◌, ℕ, zero, suc, min, List, [], ◌∷◌, ◌++◌, length, map, ap, refl, sym, subst, arith, append_assoc, Option, Some, None}
+use Rattle.std.proofs.lemmas.Bool.{ltb-false, ltb-true}
+use Rattle.std.proofs.Common.{Bool, true, false, nat_lt, if◌then◌else◌, ◌≡◌, ◌∙◌, ◌⊎◌, inl, inr, ◌+◌, ◌≤◌, ◌<◌, ℕ, zero, suc, List, [], ◌∷◌, ◌++◌, length, map, ap, refl, sym, subst, arith, append_assoc, Option, Some, None}
 use Rattle.std.specs.Prelude.{slice_get}
 use Rattle.std.proofs.lemmas.List.{length-map}
 use Rattle.dom_base.specs.declared.names.As.{As}
@@ -13,11 +14,12 @@ use Rattle.server_loops.specs.Serving.{TellsTime}
 use Rattle.turn_desk.specs.Desks.{IsAtLock, Stand, desked_of}
 use Rattle.network_serving.specs.declared.duties.Duty.{Duty}
 use Rattle.network_serving.specs.declared.duties.Duty.TheVariants.{Operate}
-use Rattle.network_serving.specs.Duties.{duties_of, first_duties, watch_duties}
-use Rattle.network_serving.specs.Bases.{Base, Desk, IsReady, Operator, Server, bases_of, watch_bases}
+use Rattle.network_serving.specs.Duties.{duties_of, first_duties, record_duties, watch_duties}
+use Rattle.network_serving.specs.Bases.{Base, Desk, IsReady, Operator, Server, bases_of, record_bases, watch_bases}
 use Rattle.network_serving.specs.Ends.{Ends, IsServed, RoseBy, World}
 use Rattle.network_serving.specs.Files.{IsLoadEnd, IsNamedEnd}
 use Rattle.network_serving.specs.Ports.{AreApart, ports_of, watch_ports}
+use Rattle.network_serving.specs.Records.{IsNoRecord}
 use Rattle.network_serving.specs.Starting.{Called, IsClosed, IsPlanEnd, IsStartEnd, IsUnlistened, IsUnstarted, called, peer_ports}
 use Rattle.network_serving.specs.declared.served.Served.{Served}
 use Rattle.network_serving.specs.declared.served.Served.TheVariants as served
@@ -72,6 +74,8 @@ module _ (n : NetworkParts) where
   planned_end x faults (served.NoPort port) is = front x port is
   planned_end x faults served.NoMemory is = tt
   planned_end x faults served.Turns is = absurd is
+  planned_end x faults served.Stopped is = absurd is
+  planned_end x faults (served.NoRecord file) is = absurd is
   planned_end x faults served.ReadFault is = absurd is
   planned_end x faults (served.TooLarge file) is = absurd is
   planned_end x faults (served.BadNetwork file line fault) is = absurd is
@@ -82,6 +86,8 @@ module _ (n : NetworkParts) where
   watched a b c d e f at g (served.NoPort port) calls less is = behind a b c d e f at port calls less is
   watched a b c d e f at g served.NoMemory calls less is = tt
   watched a b c d e f at g served.Turns calls less is = absurd is
+  watched a b c d e f at g served.Stopped calls less is = absurd is
+  watched a b c d e f at g (served.NoRecord file) calls less is = absurd is
   watched a b c d e f at g served.ReadFault calls less is = absurd is
   watched a b c d e f at g (served.TooLarge file) calls less is = absurd is
   watched a b c d e f at g (served.BadNetwork file line fault) calls less is = absurd is
@@ -96,6 +102,8 @@ pub unstarted_from : (a b c : ℕ) (s : Served) → a ≤ b → IsUnstarted (b, 
 unstarted_from a b c served.NoThread less is = rose_from a b c less is
 unstarted_from a b c served.NoMemory less is = tt
 unstarted_from a b c served.Turns less is = absurd is
+unstarted_from a b c served.Stopped less is = absurd is
+unstarted_from a b c (served.NoRecord file) less is = absurd is
 unstarted_from a b c served.ReadFault less is = absurd is
 unstarted_from a b c (served.TooLarge file) less is = absurd is
 unstarted_from a b c (served.BadNetwork file line fault) less is = absurd is
@@ -105,6 +113,8 @@ pub unstarted_end : (ports : List ℕ) (x : Called) (faults : ℕ × ℕ) (s : S
 unstarted_end ports x faults served.NoThread is = is
 unstarted_end ports x faults served.NoMemory is = tt
 unstarted_end ports x faults served.Turns is = absurd is
+unstarted_end ports x faults served.Stopped is = absurd is
+unstarted_end ports x faults (served.NoRecord file) is = absurd is
 unstarted_end ports x faults served.ReadFault is = absurd is
 unstarted_end ports x faults (served.TooLarge file) is = absurd is
 unstarted_end ports x faults (served.BadNetwork file line fault) is = absurd is
@@ -115,6 +125,12 @@ want_unstarted faults s is = subst (IsUnstarted faults) (sym is) tt
 
 pub want_start : (ports : List ℕ) (x : Called) (faults : ℕ × ℕ) (s : Served) → s ≡ served.NoMemory → IsStartEnd ports x faults s
 want_start ports x faults s is = subst (IsStartEnd ports x faults) (sym is) tt
+
+-- ---- desks
+
+-- behind the first tasks and a record there are still two desks: that of the operator, and that from which it is split
+pub still_two : (all first mid last : ℕ) → all ≡ first + 3 → mid + first ≡ all → mid ≤ last + 1 → 1 < last
+still_two all first mid last are left less = omega (arith, are, left, less)
 
 -- ---- duties
 
@@ -135,17 +151,28 @@ bases_on n x old all with last first second third =
     ∙ append_assoc (old ++ front) (operator ∷ []) (watch_bases x.shown x.list n.watch)
     ∙ append_assoc old front (operator ∷ watch_bases x.shown x.list n.watch)
 
+-- with a record behind them
+pub recorded_on : (n : NetworkParts) (more old last all : List Duty) → last ≡ old ++ duties_of n → all ≡ last ++ more → all ≡ old ++ (duties_of n ++ more)
+recorded_on n more old last all first second = second ∙ ap (λ (ds : List Duty). ds ++ more) first ∙ append_assoc old (duties_of n) more
+
+pub recorded_bases_on : (n : NetworkParts) (x : Server) (more old last all : List Base) → last ≡ old ++ bases_of n x → all ≡ last ++ more → all ≡ old ++ (bases_of n x ++ more)
+recorded_bases_on n x more old last all first second = second ∙ ap (λ (bs : List Base). bs ++ more) first ∙ append_assoc old (bases_of n x) more
+
 -- ---- all of it
 
 no_other_end : (files : Option Files) (at : As) (topology : Option (List ℕ)) (counts : ℕ × ℕ) (failed_at : List ℕ) (s : Served) → (s ≡ served.NoMemory → ⊥) → ((name : List ℕ) → IsNamedEnd files at (Some name) counts failed_at s → ⊥) → IsNamedEnd files at topology counts failed_at s → ⊥
 no_other_end files at None counts failed_at s want none is = want is
 no_other_end files at (Some name) counts failed_at s want none is = none name is
 
-module _ (w : World) (name : List ℕ) (turns : ℕ) where
+module _ (w : World) (name : List ℕ) where
+  pub all_served : (made : ℕ) (n : NetworkParts) (x : Server) → HasNetwork w.files name n → AreApart n → IsReady w.files n x → w.started.1 ≡ w.started.0 ++ (duties_of n ++ record_duties w.recorded) → w.bases.1 ≡ w.bases.0 ++ (bases_of n x ++ record_bases w.recorded x.desk) → RoseBy made w.readings → (s : Stand) → w.told ≡ Some s → IsAtLock x.desk s → TellsTime made (desked_of x.desk) (desked_of s) w.last.0 w.last.1 → IsServed w name made
+  all_served made n x has apart ready duties behind read s by at tells = record { network = n; has = has; apart = apart; duties = duties; server = x; ready = ready; runs = λ s at given. is_run w.files n x ready s at given; behind = behind; read = read; told = s; by = by; at = at; tells = tells }
+
+module _ (w : World) (Unrecorded : Type 0) (name : List ℕ) (turns : ℕ) where
   abbrev Load : Served → Type 0
   Load s = IsLoadEnd w.files name w.store_faults w.failed_at s
 
-  pub load_ends : (s : Served) → Load s → Ends w name turns s
+  pub load_ends : (s : Served) → Load s → Ends w Unrecorded name turns s
   load_ends served.ReadFault is = is
   load_ends (served.TooLarge file) is = is
   load_ends (served.BadNetwork file line fault) is = is
@@ -153,6 +180,14 @@ module _ (w : World) (name : List ℕ) (turns : ℕ) where
   load_ends served.Turns is = elim is [
     | inl file ↦ absurd file
     | inr network ↦ elim network.ends [ inl port ↦ absurd port | inr topology ↦ absurd (no_other_end w.files topology.row.own topology.row.topology w.store_faults w.failed_at served.Turns (λ e. let no : ⊥ = cc in no) (λ n e. e) topology.ends) ]
+  ]
+  load_ends served.Stopped is = elim is [
+    | inl file ↦ absurd file
+    | inr network ↦ elim network.ends [ inl port' ↦ absurd port' | inr topology ↦ absurd (no_other_end w.files topology.row.own topology.row.topology w.store_faults w.failed_at served.Stopped (λ e. let no : ⊥ = cc in no) (λ n e. e) topology.ends) ]
+  ]
+  load_ends (served.NoRecord place) is = elim is [
+    | inl file ↦ absurd file
+    | inr network ↦ elim network.ends [ inl port' ↦ absurd port' | inr topology ↦ absurd (no_other_end w.files topology.row.own topology.row.topology w.store_faults w.failed_at (served.NoRecord place) (λ e. let no : ⊥ = cc in no) (λ n e. e) topology.ends) ]
   ]
   load_ends (served.NoPort port) is = elim is [
     | inl file ↦ absurd file
@@ -163,14 +198,36 @@ module _ (w : World) (name : List ℕ) (turns : ℕ) where
     | inr network ↦ elim network.ends [ inl port' ↦ absurd port' | inr topology ↦ absurd (no_other_end w.files topology.row.own topology.row.topology w.store_faults w.failed_at served.NoThread (λ e. let no : ⊥ = cc in no) (λ n e. e) topology.ends) ]
   ]
 
-  pub all_served : (n : NetworkParts) (x : Server) → HasNetwork w.files name n → AreApart n → IsReady w.files n x → w.started.1 ≡ w.started.0 ++ duties_of n → w.bases.1 ≡ w.bases.0 ++ bases_of n x → RoseBy turns w.readings → (s : Stand) → w.told ≡ Some s → IsAtLock x.desk s → TellsTime turns (desked_of x.desk) (desked_of s) w.last.0 w.last.1 → IsServed w name turns
-  all_served n x has apart ready duties behind read s by at tells = record { network = n; has = has; apart = apart; duties = duties; server = x; ready = ready; runs = λ s at given. is_run w.files n x ready s at given; behind = behind; read = read; told = s; by = by; at = at; tells = tells }
+  -- the time was told in so many turns
+  pub told_so : (made : ℕ) (s : Served) → made ≤ turns → IsServed w name made → s ≡ (if nat_lt made turns then served.Stopped else served.Turns) → Ends w Unrecorded name turns s
+  told_so made s within is e = subst (Ends w Unrecorded name turns) (sym e) (go (nat_lt made turns) refl)
+    where
+      go : (b : Bool) → nat_lt made turns ≡ b → Ends w Unrecorded name turns (if b then served.Stopped else served.Turns)
+      go true less = (made, ltb-true made turns less, is)
+      go false more = let least : turns ≤ made = ltb-false made turns more in let all : made ≡ turns = omega (arith, within, least) in subst (λ (k : ℕ). IsServed w name k) all is
 
-  pub start_ends : (n : NetworkParts) (s : Served) → HasNetwork w.files name n → IsStartEnd (ports_of n) (called w.port_calls w.port_faults w.failed_port) w.spawner_faults s → Ends w name turns s
-  start_ends n (served.NoPort port) has is = record { network = n; has = has; place = is.place; at_place = is.at_place; called = is.calls; failed = is.failed; at_port = is.at_port }
-  start_ends n served.NoThread has is = is
-  start_ends n served.NoMemory has is = tt
-  start_ends n served.Turns has is = absurd is
-  start_ends n served.ReadFault has is = absurd is
-  start_ends n (served.TooLarge file) has is = absurd is
-  start_ends n (served.BadNetwork file line fault) has is = absurd is
+  starts : (n : NetworkParts) (s : Served) → HasNetwork w.files name n → IsStartEnd (ports_of n) (called w.port_calls w.port_faults w.failed_port) w.spawner_faults s → Ends w Unrecorded name turns s
+  starts n (served.NoPort port) has is = record { network = n; has = has; place = is.place; at_place = is.at_place; called = is.calls; failed = is.failed; at_port = is.at_port }
+  starts n served.NoThread has is = is
+  starts n served.NoMemory has is = tt
+  starts n served.Turns has is = absurd is
+  starts n served.Stopped has is = absurd is
+  starts n (served.NoRecord place) has is = absurd is
+  starts n served.ReadFault has is = absurd is
+  starts n (served.TooLarge file) has is = absurd is
+  starts n (served.BadNetwork file line fault) has is = absurd is
+
+  records : (s : Served) → IsNoRecord Unrecorded s → Ends w Unrecorded name turns s
+  records (served.NoRecord place) is = is
+  records served.NoMemory is = tt
+  records served.Turns is = absurd is
+  records served.Stopped is = absurd is
+  records (served.NoPort port) is = absurd is
+  records served.NoThread is = absurd is
+  records served.ReadFault is = absurd is
+  records (served.TooLarge file) is = absurd is
+  records (served.BadNetwork file line fault) is = absurd is
+
+  pub start_ends : (n : NetworkParts) (s : Served) → HasNetwork w.files name n → IsNoRecord Unrecorded s ⊎ IsStartEnd (ports_of n) (called w.port_calls w.port_faults w.failed_port) w.spawner_faults s → Ends w Unrecorded name turns s
+  start_ends n s has (inl is) = records s is
+  start_ends n s has (inr is) = starts n s has is

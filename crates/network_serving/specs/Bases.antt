@@ -1,5 +1,5 @@
 -- The desks, settings and published lists that the tasks of a server stand on.
-use Rattle.std.specs.Prelude.{◌≡◌, ℕ, List, [], ◌∷◌, ◌++◌, map, Option, Some, None}
+use Rattle.std.specs.Prelude.{ℕ, Bool, List, ◌∷◌, ◌++◌, map, Option}
 use Rattle.dom_edge.specs.Stores.{Files}
 use Rattle.logbook.specs.Pages.{Book}
 use Rattle.plant_network.specs.Topologies.{Held, whole}
@@ -14,7 +14,7 @@ use Rattle.network_serving.specs.declared.footing.Footing.{Footing}
 use Rattle.network_serving.specs.declared.footing.Footing.TheVariants as footing
 use Rattle.network_serving.specs.declared.tasks.Task.{Task}
 use Rattle.network_serving.specs.declared.tasks.Task.TheVariants as task
-use Rattle.network_serving.specs.Duties.{first_duties, watch_duties}
+use Rattle.network_serving.specs.Duties.{first_duties, record_duties, watch_duties}
 use Rattle.network_serving.specs.Loaded.{IsLoaded}
 
 -- What a task stands on: a desk at a lock; a desk, settings, and what was shown, on which list; or what a watcher knows, of which list.
@@ -53,6 +53,10 @@ watch_bases known list watch = map (λ (d : Duty). Watcher known list) (watch_du
 -- those of its tasks, in the order of the duties
 abbrev pub bases_of : NetworkParts → Server → List Base
 bases_of n x = map (λ (d : Duty). Desk x.desk) (first_duties n) ++ Operator x.desk n x.shown x.list ∷ watch_bases x.shown x.list n.watch
+
+-- that of what writes a record, where one is asked for
+abbrev pub record_bases : Bool → Stand → List Base
+record_bases recorded desk = map (λ (d : Duty). Desk desk) (record_duties recorded)
 
 -- A lock was opened round a network of these settings, into which the topologies that they name had been loaded, and no turn had been
 -- made. What was shown are these topologies.

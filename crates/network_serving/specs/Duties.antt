@@ -1,5 +1,5 @@
 -- The tasks of a network: which, and in which order they are started.
-use Rattle.std.specs.Prelude.{ℕ, zero, suc, ◌+◌, List, [], ◌∷◌, ◌++◌, length, Option, Some, None}
+use Rattle.std.specs.Prelude.{ℕ, Bool, true, false, zero, suc, ◌+◌, List, [], ◌∷◌, ◌++◌, length, Option, Some, None}
 use Rattle.std.specs.List.{flat_map}
 use Rattle.dom_base.specs.declared.names.As.{As}
 use Rattle.plant_text.specs.Names.{parent_as}
@@ -8,7 +8,7 @@ use Rattle.plant_text.specs.declared.settings.NetworkParts.{NetworkParts}
 use Rattle.plant_text.specs.declared.settings.PeerRow.{PeerRow}
 use Rattle.network_serving.specs.declared.duties.TheConstants.{WATCHERS}
 use Rattle.network_serving.specs.declared.duties.Duty.{Duty}
-use Rattle.network_serving.specs.declared.duties.Duty.TheVariants.{Port, Carry, Work, Operate, Watch}
+use Rattle.network_serving.specs.declared.duties.Duty.TheVariants.{Port, Carry, Work, Operate, Watch, Record}
 
 -- the port of each peer and who connects there, in order; peers are numbered
 abbrev pub port_duties : ℕ → List PeerRow → List Duty
@@ -49,10 +49,15 @@ first_duties n = port_duties 0 n.peers ++ Carry (ways_of n) ∷ work_duties 0 n.
 abbrev pub duties_of : NetworkParts → List Duty
 duties_of n = first_duties n ++ Operate ∷ watch_duties n.watch
 
+-- what writes a record, where one is asked for: behind all of them
+abbrev pub record_duties : Bool → List Duty
+record_duties true = Record ∷ []
+record_duties false = []
+
 -- how many of the first tasks: each has a desk
 abbrev pub first_count : NetworkParts → ℕ
 first_count n = length n.peers + n.workers + 1
 
--- the desks of all tasks, and that from which they are split
+-- the desks of all tasks and of a record, and that from which they are split
 abbrev pub desks_of : NetworkParts → ℕ
-desks_of n = first_count n + 2
+desks_of n = first_count n + 3

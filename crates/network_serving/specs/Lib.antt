@@ -11,6 +11,7 @@ pub mod Watching
 pub mod Watches
 pub mod Working
 pub mod Running
+pub mod Records
 pub mod SpawnerStates
 pub mod Spawners
 -- inner

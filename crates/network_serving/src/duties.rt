@@ -18,4 +18,6 @@ pub enum Duty {
     Operate,
     /// It answers watchers, who come in at this port, as one of several that do.
     Watch(u16, u32),
+    /// It writes a record of what is done.
+    Record,
 }

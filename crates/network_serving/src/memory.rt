@@ -5,13 +5,17 @@ ghost use Rattle.network_serving.specs.Bases.{base_in};
 ghost use Rattle.network_serving.specs.SpawnerStates.{Starts, bases_in};
 ghost use Rattle.network_serving.specs.Tasks.{duty_of};
 ghost use Rattle.network_serving.specs.declared.begun.Begun.TheVariants.{Failed};
+ghost use Rattle.network_serving.specs.Bases.{Desk};
+ghost use Rattle.network_serving.specs.declared.duties.Duty.TheVariants.{Record};
+ghost use Rattle.turn_desk.specs.Desks.{stand_of};
 
 use crate::begun::Begun;
 use crate::duties::Duty;
 use crate::footing::Footing;
+use crate::recorder::Recorder;
 use crate::tasks::Task;
 use dom_base::List;
-use dom_edge::{Listener, Noted, PlannedCalls, Sink, Source, Store};
+use dom_edge::{Calendar, Folder, Listener, Noted, PlannedCalls, Sink, Source, Store};
 use std::alloc::Global;
 use std::marker::Model;
 use std::sync::Wait;
@@ -78,6 +82,29 @@ impl MemorySpawner {
             return Begun::NoMemory;
         }
         self.footings = self.footings.and(&task.footing());
+        Begun::Started
+    }
+
+    /// Keeps that a record is to be written, and drops what was to write it.
+    pub(crate) fn record<G, M, E, R>(&mut self, recorder: Recorder<G, M, E, R>) -> Begun
+    where
+        G: Folder + Drop,
+        M: Calendar + Drop,
+        E: Sink + Drop,
+        R: Wait + Clock + Copy + Drop,
+        ensures starts { Starts Record (Desk (stand_of recorder.seat.desk)) result self.old.duties self.new.duties (bases_in self.old.footings) (bases_in self.new.footings) self.old.calls.faults self.new.calls.faults }
+        ensures planned { IsPlanned self.old.calls → result ≡ Failed }
+        ensures called { IsCalled self.old.calls self.new.calls (result ≡ Failed) }
+    {
+        if self.calls.is_planned() {
+            self.calls.fail();
+            return Begun::Failed;
+        }
+        self.calls.pass();
+        if self.duties.push(Duty::Record).is_err() {
+            return Begun::NoMemory;
+        }
+        self.footings = self.footings.and(&recorder.footing());
         Begun::Started
     }
 }

@@ -9,6 +9,8 @@ use plant_text::NetFault;
 pub enum Served {
     /// The time was told in all turns. The threads that were started go on until the process ends.
     Turns,
+    /// The time was told until the operator said that serving is to end, and the record, where one was asked for, had ended too.
+    Stopped,
     /// A file could not be read.
     ReadFault,
     /// A file, by its name, has more bytes than its limit.
@@ -19,6 +21,8 @@ pub enum Served {
         line: u32,
         fault: NetFault,
     },
+    /// There is no record, since what is called so is there already, or could not be made or written.
+    NoRecord(Text),
     /// This port could not be listened at.
     NoPort(u16),
     /// A thread could not be started.

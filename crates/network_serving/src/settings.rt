@@ -65,15 +65,26 @@ fn network_in(alloc: Global, name: &str, bytes: &[u8]) -> Result<Network, Served
     }
 }
 
-/// The settings in a file, twice: a network takes one for itself.
+/// The settings in a file, as often as they are needed, and the octets of the file: a network takes them for itself, an operator reads
+/// lines against them, and a record is written by them.
+#[derive(Drop)]
+pub(crate) struct Settings {
+    pub network: Network,
+    pub own: Network,
+    pub recorded: Network,
+    pub octets: Bytes,
+}
+
+/// The settings in a file.
 #[tactic(auto, using(crate::proofs::Causes::bad_text, crate::proofs::Causes::not_read, crate::proofs::Loads::read_one))]
 pub(crate) fn load_settings<T: Store>(
     alloc: Global,
     store: &mut T,
     name: &str,
-) -> Result<(Network, Network), Served>
-    ensures ok { IfOk result (λ r. HasNetwork (T.files store.old) name.now r.0 × HasNetwork (T.files store.old) name.now r.1) }
-    ensures same { IfOk result (λ r. r.0 ≡ r.1) }
+) -> Result<Settings, Served>
+    ensures ok { IfOk result (λ s. HasNetwork (T.files store.old) name.now s.own) }
+    ensures same { IfOk result (λ s. (s.network ≡ s.own) × (s.recorded ≡ s.own)) }
+    ensures octets { IfOk result (λ s. HasFile (T.files store.old) name.now s.octets) }
     ensures err { IfErr result (IsFileEnd (T.files store.old) name.now settings_max IsSettingsFault (T.faults store.old, T.faults store.new) (T.failed_at store.new)) }
     ensures files { T.files store.new ≡ T.files store.old }
     ensures later { T.faults store.old ≤ T.faults store.new }
@@ -81,5 +92,11 @@ pub(crate) fn load_settings<T: Store>(
     let bytes = read_file(alloc, store, name, SETTINGS_MAX)?;
     let network = network_in(alloc, name, bytes.as_slice())?;
     let own = network_in(alloc, name, bytes.as_slice())?;
-    Ok((network, own))
+    let recorded = network_in(alloc, name, bytes.as_slice())?;
+    Ok(Settings {
+        network,
+        own,
+        recorded,
+        octets: bytes,
+    })
 }

@@ -1,13 +1,16 @@
 //! What starts tasks.
 ghost use Rattle.network_serving.specs.SpawnerStates.{Starts};
-ghost use Rattle.network_serving.specs.Bases.{base_in};
+ghost use Rattle.network_serving.specs.Bases.{Desk, base_in};
+ghost use Rattle.network_serving.specs.declared.duties.Duty.TheVariants.{Record};
+ghost use Rattle.turn_desk.specs.Desks.{stand_of};
 ghost use Rattle.network_serving.specs.Tasks.{IsNew, duty_of};
 
 use crate::begun::Begun;
 use crate::memory::MemorySpawner;
+use crate::recorder::Recorder;
 use crate::tasks::Task;
 use crate::threads::ThreadSpawner;
-use dom_edge::{Listener, Sink, Source, Store};
+use dom_edge::{Calendar, Folder, Listener, Sink, Source, Store};
 use std::sync::Wait;
 use std::thread::Threads;
 use std::time::Clock;
@@ -37,6 +40,22 @@ impl<T: Threads> Spawner<T> {
         match self {
             Spawner::Memory(spawner) => spawner.start(task),
             Spawner::Threads(spawner) => spawner.start(task),
+        }
+    }
+
+    /// Starts what writes a record, in the same way.
+    pub fn record<G, M, E, R>(&mut self, recorder: Recorder<G, M, E, R>) -> Begun
+    where
+        G: Folder + Send + Drop + 'static,
+        G::File: Send + 'static,
+        M: Calendar + Send + Drop + 'static,
+        E: Sink + Send + Drop + 'static,
+        R: Wait + Clock + Copy + Send + Drop + 'static,
+        ensures starts { Starts Record (Desk (stand_of recorder.seat.desk)) result (started self.old) (started self.new) (bases self.old) (bases self.new) (faults_of self.old) (faults_of self.new) }
+    {
+        match self {
+            Spawner::Memory(spawner) => spawner.record(recorder),
+            Spawner::Threads(spawner) => spawner.record(recorder),
         }
     }
 }

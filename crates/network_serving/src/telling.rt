@@ -83,6 +83,10 @@ fn write_duty(
         }
         Duty::Watch(port, 0) => write_listens(at, *port, b"watchers", into),
         Duty::Watch(_, _) => Ok(()),
+        Duty::Record => {
+            into.extend_from_slice(b"pce: writes a record")?;
+            Ok(())
+        }
     }
 }
 
@@ -102,6 +106,26 @@ pub(crate) fn tell_started<L: Sink>(
     if text.push(b'\n').is_ok() {
         let _ = write_all(log, &text);
     }
+}
+
+fn write_record_end(events: u64, why: &[u8], into: &mut Vec<u8>) -> Result<(), NoMemory> {
+    write_around(b"pce: record ended at event ", events, b": ", into)?;
+    into.extend_from_slice(why)?;
+    into.push(b'\n')?;
+    Ok(())
+}
+
+/// Says that a record ended, and why. So many events surely stand in it.
+pub(crate) fn tell_record_end<L: Sink>(alloc: Global, log: &mut L, events: u64, why: &[u8]) {
+    let mut text = Vec::new(alloc);
+    if write_record_end(events, why, &mut text).is_ok() {
+        let _ = write_all(log, &text);
+    }
+}
+
+/// Says that serving ends, as an operator asked for.
+pub(crate) fn tell_stopped<L: Sink>(log: &mut L) {
+    let _ = write_all(log, b"pce: stopped\n");
 }
 
 /// Says that all tasks were started.

@@ -1,6 +1,9 @@
 //! A spawner that starts threads.
 ghost use Rattle.std.specs.Prelude.{◌≡◌, IfSome, []};
-ghost use Rattle.network_serving.specs.Bases.{base_in};
+ghost use Rattle.network_serving.specs.Bases.{Desk, base_in};
+ghost use Rattle.network_serving.specs.Records.{WasWritten};
+ghost use Rattle.network_serving.specs.declared.duties.Duty.TheVariants.{Record};
+ghost use Rattle.turn_desk.specs.Desks.{stand_of};
 ghost use Rattle.network_serving.specs.Running.{WasRun};
 ghost use Rattle.network_serving.specs.SpawnerStates.{Starts, bases_in};
 ghost use Rattle.network_serving.specs.Tasks.{IsNew, duty_of};
@@ -8,8 +11,9 @@ ghost use Rattle.network_serving.specs.Tasks.{IsNew, duty_of};
 use crate::begun::Begun;
 use crate::duties::Duty;
 use crate::footing::Footing;
+use crate::recorder::{Recorder, Written};
 use crate::tasks::Task;
-use dom_edge::{Listener, Noted, Sink, Source, Store};
+use dom_edge::{Calendar, Folder, Listener, Noted, Sink, Source, Store};
 use std::alloc::Global;
 use std::marker::Model;
 use std::snapshot::Snapshot;
@@ -79,6 +83,29 @@ impl<T: Threads> ThreadSpawner<T> {
         self.footings = footings;
         Begun::Started
     }
+
+    /// Starts a thread that writes a record.
+    pub(crate) fn record<G, M, E, R>(&mut self, recorder: Recorder<G, M, E, R>) -> Begun
+    where
+        G: Folder + Send + Drop + 'static,
+        G::File: Send + 'static,
+        M: Calendar + Send + Drop + 'static,
+        E: Sink + Send + Drop + 'static,
+        R: Wait + Clock + Copy + Send + Drop + 'static,
+        ensures starts { Starts Record (Desk (stand_of recorder.seat.desk)) result self.old.duties self.new.duties (bases_in self.old.footings) (bases_in self.new.footings) self.old.faults self.new.faults }
+    {
+        if self.duties.reserve(1).is_err() {
+            return Begun::NoMemory;
+        }
+        let footings = self.footings.and(&recorder.footing());
+        let Some(_thread) = start_recorder(&self.rt, self.alloc, recorder) else {
+            self.faults = self.faults.saturating_add(1);
+            return Begun::Failed;
+        };
+        self.duties.push_reserved(Duty::Record);
+        self.footings = footings;
+        Begun::Started
+    }
 }
 
 /// A task as it is handed to a thread. The thread promises to give it back as a run of all its turns left it.
@@ -139,6 +166,62 @@ where
             requires { IsNew K.heeds K.dialled_to task }
         { run_all(alloc, task) },
     ) {
+        Ok(handle) => Some(handle),
+        Err(_) => None,
+    }
+}
+
+/// What writes a record, as it is handed to a thread. The thread promises to give back what it left in all its turns.
+#[derive(Drop)]
+pub(crate) struct AsWritten<
+    G: Folder + Drop,
+    M: Calendar + Drop,
+    E: Sink + Drop,
+    R: Wait + Clock + Drop,
+>(Snapshot<Recorder<G, M, E, R>>);
+
+impl<G, M, E, R> Promise<Written<G, R>> for AsWritten<G, M, E, R>
+where
+    G: Folder + Drop,
+    M: Calendar + Drop,
+    E: Sink + Drop,
+    R: Wait + Clock + Drop,
+{
+    ghost use Rattle.network_serving.specs.Records.{WasWritten};
+
+    ghost kept_by = { λ p left. WasWritten G.File.faults G.faults G.File.written G.contents p.0.value left };
+}
+
+// Writes the record, and gives back what it left.
+fn write_all_of<G, M, E, R>(alloc: Global, recorder: Recorder<G, M, E, R>) -> Written<G, R>
+where
+    G: Folder + Drop,
+    M: Calendar + Drop,
+    E: Sink + Drop,
+    R: Wait + Clock + Copy + Drop,
+    ensures { WasWritten G.File.faults G.faults G.File.written G.contents recorder result }
+{
+    recorder.run(alloc, TASK_TURNS)
+}
+
+// Starts a thread that writes a record. The handle is of a thread that promised so.
+fn start_recorder<T: Threads, G, M, E, R>(
+    rt: &T,
+    alloc: Global,
+    recorder: Recorder<G, M, E, R>,
+) -> Option<PromisedHandle<Written<G, R>, AsWritten<G, M, E, R>>>
+where
+    G: Folder + Send + Drop + 'static,
+    G::File: Send + 'static,
+    M: Calendar + Send + Drop + 'static,
+    E: Sink + Send + Drop + 'static,
+    R: Wait + Clock + Copy + Send + Drop + 'static,
+    ensures { IfSome result (λ handle. handle.promise.0.value ≡ recorder) }
+{
+    let promise = AsWritten(Snapshot::of(&recorder));
+    match thread::spawn_with(rt, promise, move || -> Written<G, R> {
+        write_all_of(alloc, recorder)
+    }) {
         Ok(handle) => Some(handle),
         Err(_) => None,
     }

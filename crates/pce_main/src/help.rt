@@ -22,8 +22,12 @@ path NET SRC DST AS ..
 path NET SRC DST parent AS
                     asks for a path from that domain, whose domains the parent finds
 play NET            reads a script of events, plays it on a network, writes its transcript
+replay NET [FROM TO]
+                    plays a script of any length as it comes, as the record of a server, up to its last
+                    whole line, writes the transcript of these lines, or of all
 serve NET           serves a network at the ports of its peers until it is ended by a signal: reads lines
-                    `load AS FILE` and `change AS FILE`, writes what came of each
+                    `load AS FILE`, `change AS FILE`, `shut NAME`, `break AS AS` and `stop`, which ends
+                    it, writes what came of each
 blind NET           reads a script whose solves have border tables, plays it on a network without
                     topologies, writes what closed peers hear
 bulk N              draws a large network and N requests (1 to 8000), writes what they are answered in all
@@ -33,12 +37,13 @@ check NET           reads a network's settings and the topologies that they name
 --version           writes the versions of the program and of the toolchain
 
 Files that settings and scripts name are looked for in the folder of the settings. `serve` listens at
-the address in the variable PCE_LISTEN (`all` for all of the machine), or without it at 127.0.0.1.
+the address in the variable PCE_LISTEN (`all` for all of the machine), or without it at 127.0.0.1. Where
+PCE_RECORD names a folder, from `/` on, it writes a record of all that it does into a new folder there.
 ";
 
 // The commands, each between blanks.
 const COMMANDS: &str =
-    " answer certify verify pair pair-certify pair-verify path play serve blind bulk check ";
+    " answer certify verify pair pair-certify pair-verify path play replay serve blind bulk check ";
 
 // How many requests `bulk` may draw, and how many domains there may be.
 const REQUESTS_MAX: u64 = 8000;

@@ -2,9 +2,11 @@
 use crate::errors::{Answers, StandardError};
 use crate::patient::Patient;
 use crate::ports::NamedPorts;
-use dom_base::Text;
-use dom_edge::{FileStore, InputSource, OutputSink, SocketPorts, WallClock};
-use network_serving::{Served, Spawner, ThreadSpawner, serve};
+use dom_base::{NoMemory, Text};
+use dom_edge::{
+    FileFolder, FileStore, InputSource, OutputSink, SocketPorts, WallCalendar, WallClock,
+};
+use network_serving::{Recording, Served, Spawner, ThreadSpawner, serve};
 use plant_text::NetFault;
 use std::env::{self, VarError};
 use std::fmt;
@@ -28,13 +30,14 @@ impl Ended {
     pub(crate) fn number(&self) -> u8 {
         match self {
             Ended::Usage | Ended::NoAddress(_) => 1,
-            Ended::Served(Served::Turns) => 0,
+            Ended::Served(Served::Turns | Served::Stopped) => 0,
             Ended::Served(Served::ReadFault) => 2,
             Ended::Served(Served::BadNetwork { .. }) => 4,
             Ended::Served(Served::NoMemory) => 6,
             Ended::Served(Served::TooLarge(_)) => 9,
             Ended::Served(Served::NoThread) => 10,
             Ended::Served(Served::NoPort(_)) => 11,
+            Ended::Served(Served::NoRecord(_)) => 12,
         }
     }
 
@@ -63,7 +66,7 @@ impl fmt::Display for Ended {
         match self {
             Ended::Usage => write!(f, "usage"),
             Ended::NoAddress(text) => write!(f, "PCE_LISTEN is no address: {text}"),
-            Ended::Served(Served::Turns) => write!(f, "ok"),
+            Ended::Served(Served::Turns | Served::Stopped) => write!(f, "ok"),
             Ended::Served(Served::ReadFault) => write!(f, "read fault"),
             Ended::Served(Served::BadNetwork { file, line, fault }) => fmt_bad(
                 f, file, *line, fault,
@@ -72,6 +75,7 @@ impl fmt::Display for Ended {
             Ended::Served(Served::TooLarge(name)) => write!(f, "too large {}", name.as_str()),
             Ended::Served(Served::NoThread) => write!(f, "no thread"),
             Ended::Served(Served::NoPort(port)) => write!(f, "no port {port}"),
+            Ended::Served(Served::NoRecord(name)) => write!(f, "no record {}", name.as_str()),
         }
     }
 }
@@ -103,7 +107,41 @@ fn place_of(text: &str) -> Option<(IpAddr, &str)> {
     }
 }
 
-/// Serves the network of these settings, whose files `store` reads, until a signal ends the process. `threads` is the handle of what
+// What the record tells of the program that wrote it.
+const VERSION: &str = "pce 0.1.0";
+
+// The record that is asked for, where one is.
+type Asked = Option<Recording<FileFolder<HostRuntime>, WallCalendar<HostRuntime>, StandardError>>;
+
+// A record in the folder of that path.
+fn recording_in(rt: &HostRuntime, path: String) -> Result<Asked, NoMemory> {
+    let alloc = rt.alloc();
+    let place = Text::from_string(path);
+    let folder = FileFolder::new(alloc, *rt, Text::copy_of(alloc, place.as_str())?);
+    Ok(Some(Recording {
+        folder,
+        place,
+        calendar: WallCalendar::new(*rt),
+        version: Text::copy_of(alloc, VERSION)?,
+        log: StandardError::new(*rt),
+    }))
+}
+
+// The record that PCE_RECORD asks for: the name of its folder begins with `/`, since the folder of the settings is entered.
+fn recording_of(rt: &HostRuntime) -> Result<Asked, Ended> {
+    match env::var(rt, "PCE_RECORD") {
+        Ok(path) if path.as_str().starts_with("/") => match recording_in(rt, path) {
+            Ok(asked) => Ok(asked),
+            Err(_) => Err(Ended::Served(Served::NoMemory)),
+        },
+        Ok(_) | Err(VarError::NotUnicode) => Err(Ended::Usage),
+        Err(VarError::NotPresent) => Ok(None),
+        Err(VarError::OutOfMemory) => Err(Ended::Served(Served::NoMemory)),
+    }
+}
+
+/// Serves the network of these settings, whose files `store` reads, until a signal ends the process, or an operator's
+/// line does. `threads` is the handle of what
 /// waits and starts threads.
 pub(crate) fn serve_network<R>(
     rt: &HostRuntime,
@@ -124,6 +162,10 @@ where
     let alloc = rt.alloc();
     let mut spawner: Spawner<R> = Spawner::Threads(ThreadSpawner::new(threads, alloc));
     let mut told = None;
+    let mut recording = match recording_of(rt) {
+        Ok(asked) => asked,
+        Err(ended) => return ended,
+    };
     Ended::Served(serve(
         threads,
         alloc,
@@ -139,5 +181,6 @@ where
         at,
         u64::MAX,
         &mut told,
+        &mut recording,
     ))
 }

@@ -34,7 +34,9 @@ use Rattle.blind_play.specs.WholeScripts.{Playing as BlindlyPlaying}
 use Rattle.pce_tool.specs.declared.route.Route.{Route}
 use Rattle.network_files.specs.Settings.{HasNetwork}
 use Rattle.pce_tool.specs.Networks.{question_of}
-use Rattle.pce_tool.specs.Tasks.{Task, Blind, Bulk, Path, Play}
+use Rattle.pce_tool.specs.Tasks.{Task, Blind, Bulk, Path, Play, Replay}
+use Rattle.plant_client.specs.plant_play.Replays.{Replaying, octets_of}
+use Rattle.plant_client.specs.plant_play.declared.replaying.Span.{Span}
 
 -- A run is right; and without a parent no id wraps around in it, so what is said of it then has no premise.
 pub record IsWorth (n : NetworkParts) (turns : List Turn) (end : PlayedNetwork) : Type 0 where
@@ -53,6 +55,12 @@ PlaysAreWorth files net =
     (n : NetworkParts) (script : List ℕ) (done others : List NumberedLine) (turns : List Turn) (told : List ℕ) (end : PlayedNetwork)
     → HasNetwork files net n → length script ≤ script_most → told_lines script ≡ done ++ others → (p : Playing files n done turns told end)
     → IsWorth n turns end × (ShowsRows p.cues → DisclosedRun wire n (entries_of turns []) (shown_trace turns []) end.state)
+
+-- The same of a script that is played as it comes, of as many lines as one may have that is read whole.
+abbrev pub ReplaysAreWorth : Option Files → List ℕ → Option Span → Type 0
+ReplaysAreWorth files net span =
+    (n : NetworkParts) (lines : List (List ℕ)) (turns : List Turn) (told : List ℕ) (end : PlayedNetwork)
+    → HasNetwork files net n → length (octets_of lines) ≤ script_most → Replaying files span n lines turns told end → IsWorth n turns end
 
 -- A client asks once in a run, and receives this. It is told what the last message that was sent to it answers; each reply to a
 -- request for a path among these messages is right; and each request that an element had from it is its question. Where no id wraps around
@@ -95,6 +103,7 @@ BlindsAreHeard files net =
 -- was asked for the rest of them; where a client is answered NO-PATH of nature 0, none exists; and what closed peers hear is a function of requests, policy and disclosed border costs alone.
 abbrev pub RunsAreWorth : Option Files → Option Task → Type 0
 RunsAreWorth files (Some (Play net)) = PlaysAreWorth files net
+RunsAreWorth files (Some (Replay net span)) = ReplaysAreWorth files net span
 RunsAreWorth files (Some (Blind net)) = BlindsAreHeard files net
 RunsAreWorth files (Some (Path net r)) = PathsAreWorth files net r
 RunsAreWorth files (Some (Bulk n)) = BulksAreWorth n

@@ -9,13 +9,16 @@ use Rattle.dom_base.specs.Steps.{◌>>=◌}
 use Rattle.pcep_subobjects.specs.Addresses.{bits_of}
 use Rattle.plant_text.specs.Names.{same_as}
 use Rattle.plant_client.specs.Requests.{requests_most}
+use Rattle.plant_client.specs.plant_play.declared.replaying.Span.{Span}
 use Rattle.pce_tool.specs.declared.route.Route.{Route}
 use Rattle.pce_tool.specs.Run.{Command, command_of}
 
--- a command over one domain; a script on a network, or on one without topologies; a path that a client of a network asks for; so many requests over a drawn network; or what is to be told of a network's files
+-- a command over one domain; a script on a network, one that is played as it comes and of which these lines are told or all, or one on a network without topologies;
+-- a path that a client of a network asks for; so many requests over a drawn network; or what is to be told of a network's files
 pub data Task : Type 0 where
   Domain : Command → Task
   Play : List ℕ → Task
+  Replay : List ℕ → Option Span → Task
   Blind : List ℕ → Task
   Path : List ℕ → Route → Task
   Bulk : ℕ → Task
@@ -95,6 +98,20 @@ path_in source target words = addr_in source >>= λ s. addr_in target >>= λ t. 
 abbrev pub count_in : List ℕ → Option ℕ
 count_in word = if slice_index word 0 == 48 then None else number_in requests_most word
 
+-- ---- the words of `replay`
+
+-- the number of a line, without a leading zero
+abbrev pub line_in : List ℕ → Option ℕ
+line_in word = if slice_index word 0 == 48 then None else number_in (2 ^ 32 - 1) word
+
+-- from one line to another, which is not before it
+abbrev pub span_in : List ℕ → List ℕ → Option Span
+span_in from to = line_in from >>= λ a. line_in to >>= λ b. if nat_le a b then Some (record { from = a; to = b }) else None
+
+abbrev pub lines_task : List ℕ → List ℕ → List ℕ → List (List ℕ) → Option Task
+lines_task net from to [] = span_in from to >>= λ s. Some (Replay net (Some s))
+lines_task net from to (word ∷ words) = None
+
 -- ---- all words
 
 abbrev pub bulk_task : List ℕ → Option Task
@@ -107,10 +124,13 @@ path_task net source target words = path_in source target words >>= λ r. Some (
 abbrev pub network_task : List (List ℕ) → Option Task
 network_task (verb ∷ word ∷ []) =
     if bytes_eq verb (codes "play") then Some (Play word)
+    else (if bytes_eq verb (codes "replay") then Some (Replay word None)
     else (if bytes_eq verb (codes "blind") then Some (Blind word)
     else (if bytes_eq verb (codes "bulk") then bulk_task word
-    else (if bytes_eq verb (codes "check") then Some (Check word) else None)))
-network_task (verb ∷ net ∷ source ∷ target ∷ words) = if bytes_eq verb (codes "path") then path_task net source target words else None
+    else (if bytes_eq verb (codes "check") then Some (Check word) else None))))
+network_task (verb ∷ net ∷ source ∷ target ∷ words) =
+    if bytes_eq verb (codes "path") then path_task net source target words
+    else (if bytes_eq verb (codes "replay") then lines_task net source target words else None)
 network_task words = None
 
 abbrev pub task_or : Option Task → Option Command → Option Task

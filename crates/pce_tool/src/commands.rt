@@ -10,4 +10,5 @@ pub(crate) mod pair_certify;
 pub(crate) mod pair_verify;
 pub(crate) mod path;
 pub(crate) mod play;
+pub(crate) mod replay;
 pub(crate) mod verify;

@@ -10,6 +10,7 @@ mod output;
 mod pair_reading;
 mod reading;
 mod route;
+mod span;
 mod status;
 mod top;
 

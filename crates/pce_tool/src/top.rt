@@ -2,14 +2,16 @@
 ghost use Rattle.std.specs.Prelude.{◌≡◌, ◌↔◌, ◌∷◌, [], map, string_bytes, None, Some};
 ghost use Rattle.pce_tool.specs.Headline.{RunsAreWorth};
 ghost use Rattle.pce_tool.specs.Networks.{Runs};
-ghost use Rattle.pce_tool.specs.Tasks.{LeavesInput, bulk_task, count_in, path_in, path_task, task_of};
+ghost use Rattle.pce_tool.specs.Tasks.{LeavesInput, bulk_task, count_in, lines_task, network_task, path_in, path_task, span_in, task_of};
 ghost use Rattle.pce_tool.specs.Worlds.{world};
 
 use crate::commands::{
-    answer, blind, bulk, certify, check, pair, pair_certify, pair_verify, path, play, verify,
+    answer, blind, bulk, certify, check, pair, pair_certify, pair_verify, path, play, replay,
+    verify,
 };
 use crate::count::count_of;
 use crate::route::path_of;
+use crate::span::span_of;
 use crate::status::Status;
 use dom_edge::{Sink, Source, Store};
 use std::alloc::Global;
@@ -59,6 +61,9 @@ fn run_over<S: Store, I: Source, K: Sink>(
     }
     if verb == "play" {
         return play::run(alloc, word, store, input, out);
+    }
+    if verb == "replay" {
+        return replay::run(alloc, word, None, store, input, out);
     }
     if verb == "blind" {
         return blind::run(alloc, word, store, input, out);
@@ -116,6 +121,50 @@ fn run_path<S: Store, I: Source, K: Sink>(
     }
 }
 
+// Runs the command that plays a record, and tells these lines of it.
+fn run_lines<S: Store, I: Source, K: Sink>(
+    alloc: Global,
+    network: &str,
+    from: &str,
+    to: &str,
+    store: &mut S,
+    input: &mut I,
+    out: &mut K,
+) -> Status
+    ensures usage { (result ≡ Status.Usage) ↔ (span_in from.now to.now ≡ None) }
+    ensures ends { Runs (world (S.files store.old) (I.left input.old) (K.written out.old, K.written out.new) (S.faults store.old, S.faults store.new) (I.faults input.old, I.faults input.new) (K.faults out.old, K.faults out.new) (S.failed_at store.new)) (lines_task network.now from.now to.now []) result }
+{
+    match span_of(from, to) {
+        Some(span) => replay::run(alloc, network, Some(span), store, input, out),
+        None => Status::Usage,
+    }
+}
+
+// Runs a command of a network's settings, two words, and maybe more.
+fn run_long<S: Store, I: Source, K: Sink>(
+    alloc: Global,
+    verb: &str,
+    network: &str,
+    first: &str,
+    second: &str,
+    others: &[String],
+    store: &mut S,
+    input: &mut I,
+    out: &mut K,
+) -> Status
+    ensures usage { (result ≡ Status.Usage) ↔ (network_task (verb.now ∷ network.now ∷ first.now ∷ second.now ∷ map string_bytes others.now) ≡ None) }
+    ensures ends { Runs (world (S.files store.old) (I.left input.old) (K.written out.old, K.written out.new) (S.faults store.old, S.faults store.new) (I.faults input.old, I.faults input.new) (K.faults out.old, K.faults out.new) (S.failed_at store.new)) (network_task (verb.now ∷ network.now ∷ first.now ∷ second.now ∷ map string_bytes others.now)) result }
+    ensures unread { LeavesInput (network_task (verb.now ∷ network.now ∷ first.now ∷ second.now ∷ map string_bytes others.now)) → input.new ≡ input.old }
+{
+    if verb == "path" {
+        return run_path(alloc, network, first, second, others, store, input, out);
+    }
+    if verb == "replay" && others.is_empty() {
+        return run_lines(alloc, network, first, second, store, input, out);
+    }
+    Status::Usage
+}
+
 /// Runs the command that the words are: reads the files in the order of the words, then the input,
 /// and writes to `out`. It returns on every input. A clause of its own says what holds for a run of a network.
 pub fn run<S: Store, I: Source, K: Sink>(
@@ -141,12 +190,13 @@ pub fn run<S: Store, I: Source, K: Sink>(
             input,
             out,
         ),
-        [verb, network, source, target, domains @ ..] if verb.as_str() == "path" => run_path(
+        [verb, network, first, second, others @ ..] => run_long(
             alloc,
+            verb.as_str(),
             network.as_str(),
-            source.as_str(),
-            target.as_str(),
-            domains,
+            first.as_str(),
+            second.as_str(),
+            others,
             store,
             input,
             out,

@@ -13,7 +13,7 @@ mod telling;
 pub use asking::{ask, begin, exchange};
 pub use bulk::{REQUESTS_MAX, play};
 pub use hearing::{Heard, hear};
-pub use plant_play::{Player, SCRIPT_MAX, Stop, play_script};
+pub use plant_play::{Player, SCRIPT_MAX, Span, Stop, play_script, replay};
 pub use question::Question;
 pub use requests::Demand;
 pub use tally::Tally;

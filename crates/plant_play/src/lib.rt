@@ -9,6 +9,8 @@ mod going;
 mod lines;
 mod log;
 mod player;
+mod reel;
+mod replaying;
 mod script;
 mod showing;
 
@@ -18,6 +20,7 @@ pub use log::Log;
 pub use network_files::FileError as PlayError;
 pub use plant_network::model::Outcome;
 pub use player::Player;
+pub use replaying::{Span, replay};
 pub use script::{SCRIPT_MAX, play_script};
 pub use showing::Modes;
 pub use transcript::Stop;

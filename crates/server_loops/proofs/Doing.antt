@@ -21,6 +21,7 @@ use Rattle.plant_text.specs.declared.operator_line.OperatorLine.TheVariants as l
 use Rattle.plant_text.specs.declared.settings.NetworkParts.{NetworkParts}
 use Rattle.plant_text.specs.OperatorLines.{line_in}
 use Rattle.plant_text.specs.Settings.{is_element}
+use Rattle.plant_model.specs.declared.event.Event.{Event}
 use Rattle.plant_model.specs.declared.event.Event.TheVariants as event
 use Rattle.plant_model.specs.declared.outcome.Outcome.{Outcome}
 use Rattle.plant_model.specs.declared.outcome.Refused.{Refused}
@@ -28,9 +29,11 @@ use Rattle.plant_model.specs.declared.outcome.Refused.TheVariants.{NoSuchPeer}
 use Rattle.transcript.specs.Lines.{answer_line}
 use Rattle.ted_watch.specs.declared.shown.Shown.{Shown}
 use Rattle.server_loops.specs.Charts.{Asks, Call, Charted, Current, Did, Mapped, current_of}
-use Rattle.server_loops.specs.Operating.{Context, Does, DoesAsked, IsEndOf, IsFirstPart, Loads, Past, Publishes, ShowsMapped, Progress, WithFile, Work, is_done, line_most, past, shown_by}
-use Rattle.server_loops.specs.OperatorSteps.{Acted, Asked, DoesFile, DoesText, EndsAs, answered, file_of, Goes, IsBegun, IsFile, IsPartDone, Refuses, text_of}
-use Rattle.server_loops.specs.Texts.{bad_network_text, fault_text, read_fault_text, too_large_text}
+use Rattle.server_loops.specs.Operating.{Context, Does, DoesAsked, DoesEvent, DoesShut, IsEndOf, IsFirstPart, Loads, Past, Publishes, ShowsMapped, Progress, WithFile, Work, is_done, line_most, past, shown_by}
+use Rattle.server_loops.specs.OperatorSteps.{Acted, Asked, DoesFile, DoesTask, DoesText, EndsAs, answered, Goes, IsBegun, IsFile, IsPartDone, Refuses, shut_task, task_of, text_of}
+use Rattle.network_files.specs.Faults.{fault_text}
+use Rattle.server_loops.specs.Texts.{bad_network_text, read_fault_text, too_large_text}
+use Rattle.server_loops.specs.declared.lines.Task.{Task}
 use Rattle.server_loops.specs.declared.operating.Operated.{Operated}
 use Rattle.server_loops.specs.declared.operating.Operated.TheVariants.{End, ReadFault, Turns, Spent, NoMemory}
 
@@ -236,7 +239,7 @@ module _ (x : Context) (number : ℕ) (name : List ℕ) (a b : Progress) (Then :
 
 -- a line does what the text of its file asks for
 pub text_goes : (x : Context) (number : ℕ) (name : List ℕ) (a b : Progress) (f g : Bool) (at : As) (file bytes : List ℕ) (r : Result (Unit {0}) Operated) (p q : Past) (spent : Option ℕ) (before mid after : List ℕ)
-    → f ≡ g → bytes ≡ file → HasFile x.files name file × (length file ≤ change_file_most) × (mid ≡ before) → Goes (DoesText g x.network number at name a.past.shown bytes) r p q spent mid after → Goes (DoesFile x number (Some (f, at, name)) a b) r p q spent before after
+    → f ≡ g → bytes ≡ file → HasFile x.files name file × (length file ≤ change_file_most) × (mid ≡ before) → Goes (DoesText g x.network number at name a.past.shown bytes) r p q spent mid after → Goes (DoesFile x number f at name a b) r p q spent before after
 text_goes x number name a b f g at file bytes r p q spent before mid after same is read goes =
     read_goes x number name a b (DoesText f x.network number at name a.past.shown) file read.0 read.1 r p q spent before after
     (subst (λ (t : Bool). Goes (DoesText t x.network number at name a.past.shown file) r p q spent before after) (sym same)
@@ -283,13 +286,13 @@ pub shown_lack : (at : As) (found : ℕ × Rows) (end : Operated) (old new : Cha
 shown_lack at found end old new list more asked is same =
     subst (λ (e : Operated). Publishes (Err e) at true (past old list) (past new more) new.spent) (sym is) (refl, asked.1, inr (Ok (Some found), asked.0, same))
 
--- a load that is not made, since the chart is spent
-pub acted_out : (P : Work → Type 0) (at : As) (g : Rows) (end : Operated) (old new : Charted) (list : List Shown) (before after : List ℕ) → Acted at g (Err end) old new → Goes P (Err end) (past old list) (past new list) new.spent before after
-acted_out P at g (Spent t) old new list before after acted = (acted.1, inl (same_past old new list acted.0))
-acted_out P at g End old new list before after acted = absurd acted
-acted_out P at g ReadFault old new list before after acted = absurd acted
-acted_out P at g Turns old new list before after acted = absurd acted
-acted_out P at g NoMemory old new list before after acted = absurd acted
+-- an event that is not made, since the chart is spent
+pub acted_out : (P : Work → Type 0) (e : Event) (end : Operated) (old new : Charted) (list : List Shown) (before after : List ℕ) → Acted e (Err end) old new → Goes P (Err end) (past old list) (past new list) new.spent before after
+acted_out P e (Spent t) old new list before after acted = (acted.1, inl (same_past old new list acted.0))
+acted_out P e End old new list before after acted = absurd acted
+acted_out P e ReadFault old new list before after acted = absurd acted
+acted_out P e Turns old new list before after acted = absurd acted
+acted_out P e NoMemory old new list before after acted = absurd acted
 
 -- a question that ends a line
 pub asked_goes_out : (P : Work → Type 0) (at : As) (end : Operated) (old new : Charted) (list : List Shown) (other : Current) (some : Work) (rest : List Call) (before after : List ℕ) → P some → some.calls ≡ Mapped at other ∷ rest → Asked at (Err end) old new → Goes P (Err end) (past old list) (past new list) new.spent before after
@@ -375,20 +378,38 @@ pub long_goes : (x : Context) (number : ℕ) (a b : Progress) (text : List ℕ) 
 long_goes x number a b text (Ok u) p spent before after long fresh told lack = goes_said (Does x number text a b) (too_large_text number (codes "input")) p spent before after (long_said x number a b text long) fresh told
 long_goes x number a b text (Err end) p spent before after long fresh told lack = goes_lack (Does x number text a b) end p spent before after lack fresh
 
--- a line does what the file asks that it names
-asked_file : (x : Context) (number : ℕ) (e : OperatorLine) (a b : Progress) (w : Work) → DoesFile x number (file_of e) a b w → DoesAsked x number (Some (Some e)) a b w
-asked_file x number (line.Load at name) a b w does = does
-asked_file x number (line.Change at name) a b w does = does
-asked_file x number line.Stop a b w does = does
-asked_file x number (line.Show subject) a b w does = does
-asked_file x number (line.Shut p) a b w does = does
-asked_file x number (line.Break u v) a b w does = does
-asked_file x number (line.Write at name) a b w does = does
+-- a line does what it asks to be done
+asked_shut : (x : Context) (number : ℕ) (peer : Option ℕ) (a b : Progress) (w : Work) → DoesTask x number (shut_task peer) a b w → DoesShut peer number w
+asked_shut x number None a b w does = does
+asked_shut x number (Some peer) a b w does = does
 
-pub asked_goes_file : (x : Context) (number : ℕ) (e : OperatorLine) (f : Option (Bool × As × List ℕ)) (a b : Progress) (r : Result (Unit {0}) Operated) (p q : Past) (spent : Option ℕ) (before after : List ℕ) → file_of e ≡ f → Goes (DoesFile x number f a b) r p q spent before after → Goes (DoesAsked x number (Some (Some e)) a b) r p q spent before after
-asked_goes_file x number e f a b r p q spent before after is goes =
-    goes_as (DoesFile x number (file_of e) a b) (DoesAsked x number (Some (Some e)) a b) (asked_file x number e a b) r p q spent before after
-    (subst (λ (k : Option (Bool × As × List ℕ)). Goes (DoesFile x number k a b) r p q spent before after) (sym is) goes)
+asked_task : (x : Context) (number : ℕ) (e : OperatorLine) (a b : Progress) (w : Work) → DoesTask x number (task_of e) a b w → DoesAsked x number (Some (Some e)) a b w
+asked_task x number (line.Load at name) a b w does = does
+asked_task x number (line.Change at name) a b w does = does
+asked_task x number line.Stop a b w does = does
+asked_task x number (line.Show subject) a b w does = does
+asked_task x number (line.Shut peer) a b w does = asked_shut x number peer a b w does
+asked_task x number (line.Break u v) a b w does = does
+asked_task x number (line.Write at name) a b w does = does
+
+pub asked_goes_task : (x : Context) (number : ℕ) (e : OperatorLine) (t : Task) (a b : Progress) (r : Result (Unit {0}) Operated) (p q : Past) (spent : Option ℕ) (before after : List ℕ) → task_of e ≡ t → Goes (DoesTask x number t a b) r p q spent before after → Goes (DoesAsked x number (Some (Some e)) a b) r p q spent before after
+asked_goes_task x number e t a b r p q spent before after is goes =
+    goes_as (DoesTask x number (task_of e) a b) (DoesAsked x number (Some (Some e)) a b) (asked_task x number e a b) r p q spent before after
+    (subst (λ (k : Task). Goes (DoesTask x number k a b) r p q spent before after) (sym is) goes)
+
+-- an event is made, and told or not
+pub event_told : (e : Event) (number : ℕ) (answer : Result Outcome Refused) (r : Result (Unit {0}) Operated) (old new : Charted) (list : List Shown) (before after : List ℕ) → Acted e (Ok answer) old new → OnOk r (after ≡ before ++ answer_line number answer) → IfErr r (λ (end : Operated). end ≡ NoMemory) → Goes (DoesEvent e number) r (past old list) (past new list) new.spent before after
+event_told e number answer (Ok u) old new list before after acted told lack =
+    one_done (DoesEvent e number) (Did e answer) (answer_line number answer) (past old list) (past new list) new.spent before after (record { answer = answer; is = refl }) acted.1 acted.0 refl told
+event_told e number answer (Err end) old new list before after acted told lack =
+    subst (λ (o : Operated). Goes (DoesEvent e number) (Err o) (past old list) (past new list) new.spent before after) (sym lack) (
+      acted.1,
+      inr (record {
+        work = record { calls = Did e answer ∷ []; shown = []; text = answer_line number answer };
+        does = record { answer = answer; is = refl };
+        part = record { made = Did e answer ∷ []; part = inl ([], refl); calls = acted.0; shown = inl refl };
+      }),
+    )
 
 -- one thing is said, or memory ran out
 pub said_or : (P : Work → Type 0) (text : List ℕ) (r : Result (Unit {0}) Operated) (p : Past) (spent : Option ℕ) (before after : List ℕ) → P (record { calls = []; shown = []; text = text }) → spent ≡ None → OnOk r (after ≡ before ++ text) → IfErr r (λ (e : Operated). e ≡ NoMemory) → Goes P r p p spent before after

@@ -1,5 +1,5 @@
 -- What passes over a link in the turns of a session: what was drained is written, and what was read is fed.
-use Rattle.std.proofs.Common.{◌≡◌, ◌⊎◌, inl, inr, ◌<◌, ◌≤◌, ◌+◌, ℕ, suc, Bool, List, [], ◌∷◌, ◌++◌, Ok, length, length-append, take, append_assoc, append-nil, arith, refl, sym, ◌∙◌, ap, subst, true, false}
+use Rattle.std.proofs.Common.{◌≡◌, inl, inr, ◌≤◌, ◌+◌, ℕ, suc, Bool, List, [], ◌∷◌, ◌++◌, Ok, length, length-append, take, append_assoc, append-nil, arith, refl, sym, ◌∙◌, ap, subst, true, false}
 use Rattle.std.specs.List.{AllByRecursion}
 use Rattle.std.specs.Io.KnownBytes.{Appends, Consumes, Keeps}
 use Rattle.std.specs.declared.option.Option.{Option}

@@ -8,7 +8,6 @@ use Rattle.dom_edge.specs.declared.stream.Got.TheVariants as got
 use Rattle.network_links.specs.declared.rest.Rest.{Rest}
 use Rattle.network_links.specs.declared.rest.Rest.TheVariants.{Messages}
 use Rattle.plant_model.specs.declared.event.Event.TheVariants.{Feed, Take, Drain}
-use Rattle.plant_model.specs.declared.outcome.Outcome.{Outcome}
 use Rattle.plant_model.specs.declared.outcome.Outcome.TheVariants.{Drained}
 use Rattle.plant_model.specs.declared.outcome.Refused.{Refused}
 use Rattle.plant_model.specs.declared.outcome.Refused.TheVariants.{NoSuchPeer, NoMemory as NoRoom}

@@ -49,6 +49,11 @@ pub record Goes (old new : Charted) (e : Event) (answer : Result Outcome DeskRef
   pub spent : new.spent ≡ spent_by answer
   pub stays : (t : ℕ) → old.spent ≡ Some t → answer ≡ Err (Spent t)
 
+-- No event and no question is made. A chart that is spent stays so.
+abbrev pub Halts : Charted → Charted → Result (Unit {0}) ℕ → Type 0
+Halts old new (Ok done) = (new.calls ≡ old.calls) × (new.spent ≡ None)
+Halts old new (Err t) = (new.calls ≡ old.calls) × (new.spent ≡ Some t)
+
 -- One more question, unless the chart is spent; then it is told of no topology.
 pub record Asks (old new : Charted) (at : As) (answer : Current) : Type 0 where
   pub asked : new.spent ≡ None → new.calls ≡ old.calls ++ Mapped at answer ∷ []

@@ -20,6 +20,7 @@ use Rattle.plant_text.specs.declared.operator_line.OperatorLine.TheVariants as l
 use Rattle.plant_text.specs.declared.settings.NetworkParts.{NetworkParts}
 use Rattle.plant_text.specs.OperatorLines.{line_in}
 use Rattle.plant_text.specs.Settings.{is_element}
+use Rattle.plant_model.specs.declared.event.Event.{Event}
 use Rattle.plant_model.specs.declared.event.Event.TheVariants as event
 use Rattle.plant_model.specs.declared.outcome.Outcome.{Outcome}
 use Rattle.plant_model.specs.declared.outcome.Refused.{Refused}
@@ -28,7 +29,7 @@ use Rattle.transcript.specs.Lines.{answer_line}
 use Rattle.ted_watch.specs.declared.shown.Shown.{Shown}
 use Rattle.ted_watch.specs.Published.{generation_of, last_of}
 use Rattle.server_loops.specs.Charts.{Call, Charted, Current, Did, Mapped}
-use Rattle.server_loops.specs.Texts.{bad_line_text, bad_network_text, read_fault_text, too_large_text}
+use Rattle.server_loops.specs.Texts.{bad_line_text, bad_network_text, read_fault_text, stop_text, too_large_text}
 use Rattle.server_loops.specs.declared.operating.Operated.{Operated}
 use Rattle.server_loops.specs.declared.operating.Operated.TheVariants.{End, ReadFault, Turns, Spent, NoMemory}
 
@@ -150,6 +151,18 @@ WithFile x number name a b Then w =
     ⊎ (IsLongFile x.files name change_file_most × Says (too_large_text number name) w)
     ⊎ ((file : List ℕ) × HasFile x.files name file × (length file ≤ change_file_most) × Then file w)
 
+-- ---- a line that names an event
+
+-- the event is made, and its answer told
+pub record DoesEvent (e : Event) (number : ℕ) (w : Work) : Type 0 where
+  pub answer : Result Outcome Refused
+  pub is : w ≡ record { calls = Did e answer ∷ []; shown = []; text = answer_line number answer }
+
+-- a session is closed; the settings have no peer of that name
+abbrev pub DoesShut : Option ℕ → ℕ → Work → Type 0
+DoesShut None number w = Says (answer_line number (Err NoSuchPeer)) w
+DoesShut (Some peer) number w = DoesEvent (event.Shut peer) number w
+
 -- ---- a line
 
 -- what a line does that says this; None where it is outside the form
@@ -158,6 +171,9 @@ DoesAsked x number None a b w = Says (bad_line_text number) w
 DoesAsked x number (Some None) a b w = Says [] w
 DoesAsked x number (Some (Some (line.Load at name))) a b w = WithFile x number name a b (λ file. LoadsFile x.network number at name file a.past.shown) w
 DoesAsked x number (Some (Some (line.Change at name))) a b w = WithFile x number name a b (λ file. ChangesFile x.network number at name file a.past.shown) w
+DoesAsked x number (Some (Some line.Stop)) a b w = Says (stop_text number) w
+DoesAsked x number (Some (Some (line.Shut peer))) a b w = DoesShut peer number w
+DoesAsked x number (Some (Some (line.Break one other))) a b w = DoesEvent (event.Break one other) number w
 DoesAsked x number (Some (Some e)) a b w = Says (bad_line_text number) w
 
 -- what a line of this number does between two stages

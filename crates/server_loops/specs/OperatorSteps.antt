@@ -13,13 +13,18 @@ use Rattle.te_links.specs.Rows.{Rows}
 use Rattle.plant_text.specs.declared.settings.NetworkParts.{NetworkParts}
 use Rattle.plant_text.specs.declared.operator_line.OperatorLine.{OperatorLine}
 use Rattle.plant_text.specs.declared.operator_line.OperatorLine.TheVariants as line
+use Rattle.plant_model.specs.declared.event.Event.{Event}
 use Rattle.plant_model.specs.declared.event.Event.TheVariants as event
 use Rattle.plant_model.specs.declared.outcome.Outcome.{Outcome}
 use Rattle.plant_model.specs.declared.outcome.Refused.{Refused}
+use Rattle.plant_model.specs.declared.outcome.Refused.TheVariants.{NoSuchPeer}
+use Rattle.transcript.specs.Lines.{answer_line}
 use Rattle.ted_watch.specs.declared.shown.Shown.{Shown}
 use Rattle.server_loops.specs.Charts.{Call, Charted, Did, Mapped}
-use Rattle.server_loops.specs.Operating.{AreSaid, AreTaken, ChangesFile, Context, HasCause, HasNoEnd, IsCut, IsDone, IsEndOf, IsPartOf, IsReadOut, IsSaid, LoadsFile, Past, Says, Side, Sides, Progress, Stops, WithFile, Work, line_most}
-use Rattle.server_loops.specs.Texts.{bad_line_text, bad_network_text, read_fault_text, too_large_text}
+use Rattle.server_loops.specs.Operating.{AreSaid, AreTaken, ChangesFile, Context, DoesEvent, HasCause, HasNoEnd, IsCut, IsDone, IsEndOf, IsPartOf, IsReadOut, IsSaid, LoadsFile, Past, Says, Side, Sides, Progress, Stops, WithFile, Work, line_most}
+use Rattle.server_loops.specs.Texts.{bad_line_text, bad_network_text, read_fault_text, stop_text, too_large_text}
+use Rattle.server_loops.specs.declared.lines.Task.{Task}
+use Rattle.server_loops.specs.declared.lines.Task.TheVariants.{File, Make, NoPeer, Nothing, Stop}
 use Rattle.server_loops.specs.declared.operating.Operated.{Operated}
 use Rattle.server_loops.specs.declared.operating.Operated.TheVariants.{ReadFault, Turns, Spent, NoMemory}
 
@@ -39,11 +44,11 @@ Asked at (Err NoMemory) old new = (new.calls ≡ old.calls ++ Mapped at (Err (re
 Asked at (Err (Spent t)) old new = (new.calls ≡ old.calls) × (new.spent ≡ Some t)
 Asked at (Err end) old new = ⊥
 
--- a load, unless the chart is spent
-abbrev pub Acted : As → Rows → Result (Result Outcome Refused) Operated → Charted → Charted → Type 0
-Acted at g (Ok answer) old new = (new.calls ≡ old.calls ++ Did (event.Load at g) answer ∷ []) × (new.spent ≡ None)
-Acted at g (Err (Spent t)) old new = (new.calls ≡ old.calls) × (new.spent ≡ Some t)
-Acted at g (Err end) old new = ⊥
+-- an event, unless the chart is spent
+abbrev pub Acted : Event → Result (Result Outcome Refused) Operated → Charted → Charted → Type 0
+Acted e (Ok answer) old new = (new.calls ≡ old.calls ++ Did e answer ∷ []) × (new.spent ≡ None)
+Acted e (Err (Spent t)) old new = (new.calls ≡ old.calls) × (new.spent ≡ Some t)
+Acted e (Err end) old new = ⊥
 
 -- ---- a line
 
@@ -83,21 +88,34 @@ IsFile files number name (Ok None) faults now failed_at before after =
     ⊎ (IsLongFile files name change_file_most × (after ≡ before ++ too_large_text number name))
 IsFile files number name (Err end) faults now failed_at before after = end ≡ NoMemory
 
--- the file that a line of an operator names, behind whether it has changes
-abbrev pub file_of : OperatorLine → Option (Bool × As × List ℕ)
-file_of (line.Load at name) = Some (false, at, name)
-file_of (line.Change at name) = Some (true, at, name)
-file_of e = None
+-- what a line asks to be done
+abbrev pub shut_task : Option ℕ → Task
+shut_task None = NoPeer
+shut_task (Some peer) = Make (event.Shut peer)
+
+abbrev pub task_of : OperatorLine → Task
+task_of (line.Load at name) = File false at name
+task_of (line.Change at name) = File true at name
+task_of (line.Shut peer) = shut_task peer
+task_of (line.Break one other) = Make (event.Break one other)
+task_of line.Stop = Stop
+task_of e = Nothing
 
 -- what a file asks for, by whether it has changes
 abbrev pub DoesText : Bool → NetworkParts → ℕ → As → List ℕ → List Shown → List ℕ → Work → Type 0
 DoesText true n number at name list file w = ChangesFile n number at name file list w
 DoesText false n number at name list file w = LoadsFile n number at name file list w
 
--- what a line does that names this file, or none
-abbrev pub DoesFile : Context → ℕ → Option (Bool × As × List ℕ) → Progress → Progress → Work → Type 0
-DoesFile x number None a b w = Says (bad_line_text number) w
-DoesFile x number (Some f) a b w = WithFile x number f.2 a b (DoesText f.0 x.network number f.1 f.2 a.past.shown) w
+-- what a line does that names this file
+abbrev pub DoesFile : Context → ℕ → Bool → As → List ℕ → Progress → Progress → Work → Type 0
+DoesFile x number is_change at name a b w = WithFile x number name a b (DoesText is_change x.network number at name a.past.shown) w
+
+abbrev pub DoesTask : Context → ℕ → Task → Progress → Progress → Work → Type 0
+DoesTask x number (File is_change at name) a b w = DoesFile x number is_change at name a b w
+DoesTask x number Stop a b w = Says (stop_text number) w
+DoesTask x number (Make e) a b w = DoesEvent e number w
+DoesTask x number NoPeer a b w = Says (answer_line number (Err NoSuchPeer)) w
+DoesTask x number Nothing a b w = Says (bad_line_text number) w
 
 -- the chart after a line
 abbrev pub EndsAs : Result (Unit {0}) Operated → Option ℕ → Type 0

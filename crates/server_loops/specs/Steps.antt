@@ -9,11 +9,11 @@ use Rattle.dom_edge.specs.Heeding.{Sides, sides}
 use Rattle.dom_edge.specs.Streams.{Writing}
 use Rattle.dom_edge.specs.Whole.{AppendsSome}
 use Rattle.network_links.specs.declared.rest.Rest.TheVariants.{Messages}
-use Rattle.plant_model.specs.declared.event.Event.TheVariants.{Shut, Feed, Take, Carry, Tick}
+use Rattle.plant_model.specs.declared.event.Event.TheVariants.{Shut, Feed, Carry, Tick}
 use Rattle.plant_model.specs.declared.outcome.Outcome.{Outcome}
 use Rattle.plant_model.specs.declared.outcome.Refused.TheVariants.{NoSuchPeer, NoMemory as NoRoom}
 use Rattle.server_loops.specs.Desks.{Answer, Call, Desked, Goes, call}
-use Rattle.server_loops.specs.Sessions.{drained, joined, IsNone, refused, IsAccepted, IsTake, AreTakes, IsDrained, IsTurn, IsRefused, AreTurns, IsCount, Last}
+use Rattle.server_loops.specs.Sessions.{drained, joined, IsNone, refused, IsTake, AreTakes, IsDrained, IsTurn, IsRefused, AreTurns, IsCount, Last}
 use Rattle.server_loops.specs.Serving.{BeginsWith, Heard, calls_of, carries, events, links_of, IsCarryOf, IsHost}
 use Rattle.dom_base.specs.declared.names.As.{As}
 use Rattle.server_loops.specs.declared.desks.DeskRefused.{DeskRefused}

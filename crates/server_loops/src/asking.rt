@@ -1,6 +1,7 @@
 //! Calls of a chart, by their end for an operator.
 ghost use Rattle.std.specs.Prelude.{◌≡◌};
 ghost use Rattle.std.specs.Arc.{arc_value};
+ghost use Rattle.server_loops.specs.Desks.{IsOwnLoad};
 ghost use Rattle.server_loops.specs.OperatorSteps.{Acted, Asked, answered};
 ghost use Rattle.server_loops.specs.Sites.{Stays};
 
@@ -24,17 +25,16 @@ pub(crate) fn ask<D: Chart>(desk: &mut D, at: As) -> Result<Option<(u64, Arc<Top
     }
 }
 
-/// Loads a topology.
+/// Makes an event.
 pub(crate) fn act<D: Chart>(
     desk: &mut D,
-    at: As,
-    topology: Topology,
+    event: Event,
 ) -> Result<Result<Outcome, Refused>, Operated>
-    requires own { topology.own ≡ at }
-    ensures acted { Acted at topology result (D.charted desk.old) (D.charted desk.new) }
+    requires own { IsOwnLoad event }
+    ensures acted { Acted event result (D.charted desk.old) (D.charted desk.new) }
     ensures stays { Stays D.is_at desk.old desk.new }
 {
-    match desk.act(Event::Load(at, topology)) {
+    match desk.act(event) {
         Ok(outcome) => Ok(Ok(outcome)),
         Err(DeskRefused::Plant(why)) => Ok(Err(why)),
         Err(DeskRefused::Spent(number)) => Err(Operated::Spent(number)),

@@ -2,7 +2,7 @@
 ghost use Rattle.std.specs.Prelude.{◌≡◌};
 ghost use Rattle.std.specs.Arc.{arc_value};
 ghost use Rattle.server_loops.specs.Desks.{IsOwnLoad};
-ghost use Rattle.server_loops.specs.Charts.{Asks, Charted, Goes, current_of};
+ghost use Rattle.server_loops.specs.Charts.{Asks, Charted, Goes, Halts, current_of};
 ghost use Rattle.server_loops.specs.Sites.{Stays};
 
 use crate::desks::DeskRefused;
@@ -26,6 +26,11 @@ pub trait Chart: Sited {
     /// It makes no event.
     fn map(&mut self, at: As) -> Result<Option<(u64, Arc<Topology>)>, NoMemory>
         ensures asks { Asks (charted self.old) (charted self.new) at (current_of arc_value result) }
+        ensures stays { Stays Self.is_at self.old self.new };
+
+    /// Serving is to end, and what is kept of events takes no more; or the number at which the chart is spent. It makes no event.
+    fn halt(&mut self) -> Result<(), u64>
+        ensures halts { Halts (charted self.old) (charted self.new) result }
         ensures stays { Stays Self.is_at self.old self.new };
 
     /// The number that the first event or question that was refused as spent gave.

@@ -3,8 +3,8 @@
 //! solves them outside every call of the bench, and hands the solutions back; and the lines of an operator, who loads topologies into a network
 //! that runs. No call here waits but by what it is handed.
 //!
-//! A line of an operator is `load AS FILE` or `change AS FILE`. It is answered under its number, and whatever is wrong with it, the next
-//! line is read. After a load that was accepted the topology is shown to watchers.
+//! A line of an operator is `load AS FILE`, `change AS FILE` or `stop`. It is answered under its number, and whatever is wrong with it, the
+//! next line is read. After a load that was accepted the topology is shown to watchers.
 #![tactic(auto)]
 
 mod asking;
@@ -42,5 +42,5 @@ pub use port::{Ran, serve_port};
 pub use publishing::publish;
 pub use sessions::{Ended, serve_session};
 pub use sites::Sited;
-pub use ticking::tick_on;
+pub use ticking::{Ends, tick_on};
 pub use working::{Worked, work};

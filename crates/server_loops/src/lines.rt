@@ -1,19 +1,23 @@
 //! A line of an operator, as it comes in.
 ghost use Rattle.std.specs.Prelude.{◌≡◌, ◌≢◌, ◌≤◌, ◌∷◌, ◌++◌, ◌||◌, [], ℕ, List, None, Some, OnOk, IfErr, codes, false, length, nat_lt, true};
 ghost use Rattle.ted_watch.specs.Watch.{list_of, published};
-ghost use Rattle.server_loops.specs.Operating.{AreOfElements, Does, DoesAsked, context, line_most, past, progress};
+ghost use Rattle.ted_watch.specs.declared.shown.Shown.{Shown};
+ghost use Rattle.server_loops.specs.Desks.{IsOwnLoad};
+ghost use Rattle.server_loops.specs.Operating.{AreOfElements, Does, DoesAsked, DoesEvent, Says, context, line_most, past, progress};
 ghost use Rattle.plant_text.specs.OperatorLines.{line_in};
-ghost use Rattle.server_loops.specs.OperatorSteps.{EndsAs, Goes, IsBegun, file_of, text_of};
+ghost use Rattle.server_loops.specs.OperatorSteps.{EndsAs, Goes, IsBegun, task_of, text_of};
 ghost use Rattle.server_loops.specs.Sites.{Stays};
-ghost use Rattle.server_loops.specs.Texts.{bad_line_text, too_large_text};
+ghost use Rattle.server_loops.specs.Texts.{bad_line_text, stop_text, too_large_text};
 ghost use Rattle.server_loops.specs.declared.operating.Operated.TheVariants.{NoMemory};
 
+use crate::asking::act;
 use crate::charts::Chart;
-use crate::loading::{FileLine, do_file};
+use crate::loading::{FileLine, do_file, tell_answer};
 use crate::operating::Operated;
 use crate::texts::{write_too_large, write_words};
 use dom_base::{As, Text};
 use dom_edge::Store;
+use plant_model::{Event, Refused};
 use plant_text::{LineError, Network, OperatorLine, read_operator_line};
 use std::alloc::Global;
 use std::sync::Wait;
@@ -101,18 +105,32 @@ impl Begun {
     }
 }
 
-// The file that a line names, behind whether it has changes.
-fn file_of(asked: OperatorLine) -> Option<(bool, As, Text)>
-    ensures { result ≡ file_of asked }
+// What a line asks to be done.
+#[derive(Drop)]
+enum Task {
+    // a topology is loaded from a file of an element: its own text, or changes to the current one
+    File(bool, As, Text),
+    Make(Event),
+    // the settings have no peer of that name
+    NoPeer,
+    // serving is to end
+    Stop,
+    // it is not done here
+    Nothing,
+}
+
+fn task_of(asked: OperatorLine) -> Task
+    ensures { result ≡ task_of asked }
 {
     match asked {
-        OperatorLine::Load(at, name) => Some((false, at, name)),
-        OperatorLine::Change(at, name) => Some((true, at, name)),
-        OperatorLine::Stop => None,
-        OperatorLine::Show(_) => None,
-        OperatorLine::Shut(_) => None,
-        OperatorLine::Break(..) => None,
-        OperatorLine::Write(..) => None,
+        OperatorLine::Load(at, name) => Task::File(false, at, name),
+        OperatorLine::Change(at, name) => Task::File(true, at, name),
+        OperatorLine::Shut(Some(peer)) => Task::Make(Event::Shut(peer)),
+        OperatorLine::Shut(None) => Task::NoPeer,
+        OperatorLine::Break(one, other) => Task::Make(Event::Break(one, other)),
+        OperatorLine::Stop => Task::Stop,
+        OperatorLine::Show(_) => Task::Nothing,
+        OperatorLine::Write(..) => Task::Nothing,
     }
 }
 
@@ -123,6 +141,43 @@ fn tell_bad_line(number: u32, into: &mut Vec<u8>) -> Result<(), Operated>
 {
     write_words(number, b"bad line", into)?;
     Ok(())
+}
+
+// What is said where serving is to end.
+fn tell_stop(number: u32, into: &mut Vec<u8>) -> Result<(), Operated>
+    ensures told { OnOk result (into.new.items ≡ into.old.items ++ stop_text number) }
+    ensures lack { IfErr result (λ end. end ≡ NoMemory) }
+{
+    write_words(number, b"ok", into)?;
+    Ok(())
+}
+
+// Serving is to end.
+fn do_stop<D: Chart>(desk: &mut D, number: u32, into: &mut Vec<u8>) -> Result<(), Operated>
+    requires fresh { (D.charted desk.old).spent ≡ None }
+    ensures goes { (shown : List Shown) → Goes (Says (stop_text number)) result (past (D.charted desk.old) shown) (past (D.charted desk.new) shown) (D.charted desk.new).spent into.old.items into.new.items }
+    ensures stays { Stays D.is_at desk.old desk.new }
+{
+    match desk.halt() {
+        Ok(()) => tell_stop(number, into),
+        Err(spent) => Err(Operated::Spent(spent)),
+    }
+}
+
+// Makes an event, and tells its answer.
+fn do_event<D: Chart>(
+    alloc: Global,
+    desk: &mut D,
+    number: u32,
+    event: Event,
+    into: &mut Vec<u8>,
+) -> Result<(), Operated>
+    requires own { IsOwnLoad event }
+    ensures goes { (list : List Shown) → Goes (DoesEvent event number) result (past (D.charted desk.old) list) (past (D.charted desk.new) list) (D.charted desk.new).spent into.old.items into.new.items }
+    ensures stays { Stays D.is_at desk.old desk.new }
+{
+    let answer = act(desk, event)?;
+    tell_answer(alloc, number, &answer, into)
 }
 
 // Does what a line says.
@@ -145,8 +200,8 @@ fn do_asked<T: Store, D: Chart, R: Wait + Drop>(
     ensures later { T.faults store.old ≤ T.faults store.new }
     ensures files { T.files store.new ≡ T.files store.old }
 {
-    match file_of(asked) {
-        Some((is_change, at, name)) => {
+    match task_of(asked) {
+        Task::File(is_change, at, name) => {
             let name = name.as_str();
             let line = FileLine {
                 number,
@@ -156,7 +211,10 @@ fn do_asked<T: Store, D: Chart, R: Wait + Drop>(
             };
             do_file(alloc, desk, store, network, publisher, line, into)
         }
-        None => tell_bad_line(number, into),
+        Task::Stop => do_stop(desk, number, into),
+        Task::Make(event) => do_event(alloc, desk, number, event, into),
+        Task::NoPeer => tell_answer(alloc, number, &Err(Refused::NoSuchPeer), into),
+        Task::Nothing => tell_bad_line(number, into),
     }
 }
 

@@ -17,7 +17,7 @@ use crate::texts::{write_bad_network, write_too_large, write_words};
 use dom_base::{As, Bytes};
 use dom_edge::{Store, StoreError};
 use network_files::{FileError, changed_of, changes_of, topology_of};
-use plant_model::{Outcome, Refused};
+use plant_model::{Event, Outcome, Refused};
 use plant_text::Network;
 use std::alloc::Global;
 use std::sync::Wait;
@@ -47,8 +47,8 @@ fn is_done(answer: &Result<Outcome, Refused>) -> bool
     }
 }
 
-// What came of an event.
-fn tell_answer(
+/// What came of an event.
+pub(crate) fn tell_answer(
     alloc: Global,
     number: u32,
     answer: &Result<Outcome, Refused>,
@@ -78,7 +78,7 @@ fn load<D: Chart, R: Wait + Drop>(
     ensures elements { AreOfElements network.now (published publisher.new) }
     ensures list { list_of publisher.new ≡ list_of publisher.old }
 {
-    let answer = act(desk, line.at, topology)?;
+    let answer = act(desk, Event::Load(line.at, topology))?;
     publish_loaded(desk, network, publisher, line.at, is_done(&answer))?;
     tell_answer(alloc, line.number, &answer, into)
 }
@@ -242,7 +242,7 @@ pub(crate) fn do_file<T: Store, D: Chart, R: Wait + Drop>(
 ) -> Result<(), Operated>
     requires elements { AreOfElements network.now (published publisher.old) }
     requires fresh { (D.charted desk.old).spent ≡ None }
-    ensures goes { Goes (DoesFile (context network.now (T.files store.old)) line.entry.number (Some (line.entry.is_change, line.entry.at, line.entry.name.now)) (progress (D.charted desk.old) (published publisher.old) (T.faults store.old) (T.failed_at store.old)) (progress (D.charted desk.new) (published publisher.new) (T.faults store.new) (T.failed_at store.new))) result (past (D.charted desk.old) (published publisher.old)) (past (D.charted desk.new) (published publisher.new)) (D.charted desk.new).spent into.old.items into.new.items }
+    ensures goes { Goes (DoesFile (context network.now (T.files store.old)) line.entry.number line.entry.is_change line.entry.at line.entry.name.now (progress (D.charted desk.old) (published publisher.old) (T.faults store.old) (T.failed_at store.old)) (progress (D.charted desk.new) (published publisher.new) (T.faults store.new) (T.failed_at store.new))) result (past (D.charted desk.old) (published publisher.old)) (past (D.charted desk.new) (published publisher.new)) (D.charted desk.new).spent into.old.items into.new.items }
     ensures stays { Stays D.is_at desk.old desk.new }
     ensures elements { AreOfElements network.now (published publisher.new) }
     ensures list { list_of publisher.new ≡ list_of publisher.old }

@@ -144,7 +144,7 @@ fn run<T: Store, I: Source, K: Sink, D: Chart, R: Wait + Drop>(
 }
 
 /// Reads the lines of an operator and does them one after the other: `load AS FILE` loads the topology of a file, `change
-/// AS FILE` the current one with the changes of a file. What came of each is written under its number. After a load of an
+/// AS FILE` the current one with the changes of a file, and `stop` says that serving is to end. What came of each is written under its number. After a load of an
 /// element that was accepted its current topology is shown to watchers, where it is newer. In each turn it reads once.
 ///
 /// A load for which the network has no memory is told as such, and the next line is read; so is a file that is refused. Where

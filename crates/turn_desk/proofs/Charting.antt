@@ -1,4 +1,5 @@
 -- What a turn of a desk means for its calls as a chart.
+use Rattle.std.specs.declared.result.Result.{Result}
 use Rattle.std.proofs.Common.{◌≡◌, ℕ, List, [], ◌∷◌, ◌++◌, ap, sym, refl, ◌∙◌, append-nil, Some, None, Ok, Err}
 use Rattle.plant_network.specs.plant_model.Types.{As}
 use Rattle.server_loops.specs.Charts as chart
@@ -6,13 +7,17 @@ use Rattle.plant_network.specs.plant_model.declared.event.Event.{Event}
 use Rattle.plant_network.specs.plant_model.Events.{Answered}
 use Rattle.plant_network.specs.Turns.{IsAnswer}
 use Rattle.plant_network.specs.Whole.{Whole}
+use Rattle.std.specs.List.{filter_map}
+use Rattle.plant_network.specs.declared.acts.Act.{Act}
 use Rattle.plant_network.specs.declared.acts.Act.TheVariants.{Do, Map}
+use Rattle.plant_network.specs.declared.acts.ActAnswer.{ActAnswer}
 use Rattle.plant_network.specs.declared.acts.Acted.{Acted}
 use Rattle.plant_network.specs.declared.acts.Acted.TheVariants.{Did, Mapped}
 use Rattle.server_loops.specs.Desks.{Answer}
 use Rattle.server_loops.specs.declared.desks.DeskRefused.TheVariants.{Plant, Spent}
 use Rattle.turn_desk.specs.Charts.{IsMapped, chart_call, charted_of}
-use Rattle.turn_desk.specs.Desks.{IsTurn, Rests, Stand, did_as, did_by}
+use Rattle.turn_desk.specs.Desks.{IsTurn, Rests, Stand, did_as, did_by, stand_on}
+use Rattle.turn_desk.specs.Seats.{IsStop, Seated}
 use Rattle.turn_desk.proofs.Turning.{answers, no_call, none_spent, one_call}
 
 made_is : (e : Event) (r : Answered) → chart.made_by e (did_as r) ≡ chart.Did e r ∷ []
@@ -62,3 +67,8 @@ is_mapped w next d a is = absurd is
 
 pub mapped_turn : (old new : Stand) (d : As) (acted : Acted) → IsTurn (Map d) (Ok acted) old new → IsMapped acted
 mapped_turn old new d acted t = let a = answers old new acted (Map d) t in is_mapped a.0 a.1 d acted a.2
+
+-- no call where the tape is ended
+pub chart_halts : (old new : Seated) (r : Result (Unit {0}) ℕ) → IsStop r old new → (stand_on new).own ≡ (stand_on old).own → chart.Halts (charted_of (stand_on old)) (charted_of (stand_on new)) r
+chart_halts old new (Ok done) stops own = (ap (λ (es : List (Act × ActAnswer)). filter_map (λ (e : Act × ActAnswer). chart_call e.0 e.1.acted) es) own, stops.spent.1)
+chart_halts old new (Err number) stops own = (ap (λ (es : List (Act × ActAnswer)). filter_map (λ (e : Act × ActAnswer). chart_call e.0 e.1.acted) es) own, stops.spent)

@@ -6,7 +6,7 @@ use Rattle.core.proofs.once.OnceLock.TheSendSync as once
 use Rattle.dom_edge.specs.contracts.bell.Bell as Bell
 use Rattle.dom_edge.specs.contracts.chime.Chime as Chime
 use Rattle.plant_lock.proofs.Crossing.{turn_seat_field_send, turnstile_send, turnstile_sync}
-use Rattle.plant_network.proofs.Crossing.{plant_send}
+use Rattle.kept_plant.proofs.Crossing.{kept_send}
 use Rattle.turn_desk.specs.contracts.bells.Bells as Bells
 use Rattle.turn_desk.specs.contracts.circle.Circle as Circle
 use Rattle.turn_desk.specs.contracts.desk.TurnDesk as TurnDesk
@@ -38,11 +38,11 @@ circle_field_send : IsSend Circle.the_field.row
 circle_field_send = search (crosses, sendable) depth 60 fits 30000
 
 pub turn_desk_send : (R : RattleType) → IsSend R → IsSend (TurnDesk.the_row R)
-turn_desk_send R r = search (turn_seat_field_send, turnstile_send, turnstile_sync, plant_send, bells_send, bells_sync, Arc-send, crosses, sendable) depth 60 fits 30000
+turn_desk_send R r = search (turn_seat_field_send, turnstile_send, turnstile_sync, kept_send, bells_send, bells_sync, Arc-send, crosses, sendable) depth 60 fits 30000
 
 -- the same where one is a field of another type
 pub turn_desk_field_send : (R : RattleType) → IsSend R → IsSend (TurnDesk.the_field R).row
-turn_desk_field_send R r = search (turn_seat_field_send, turnstile_send, turnstile_sync, plant_send, bells_send, bells_sync, Arc-send, crosses, sendable) depth 60 fits 30000
+turn_desk_field_send R r = search (turn_seat_field_send, turnstile_send, turnstile_sync, kept_send, bells_send, bells_sync, Arc-send, crosses, sendable) depth 60 fits 30000
 
 pub work_bench_send : (R : RattleType) → IsSend R → IsSend (WorkBench.the_row R)
 work_bench_send R r = let desk = turn_desk_field_send R r in search (circle_field_send, crosses, sendable) depth 60 fits 30000

@@ -1,6 +1,8 @@
 pub mod Found
 pub mod Runs
 pub mod Beginning
+pub mod Seating
+pub mod Telling
 pub mod Turning
 pub mod Charting
 pub mod Benching

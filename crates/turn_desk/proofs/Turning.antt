@@ -8,10 +8,8 @@ use Rattle.plant_network.specs.plant_model.Types.{As, NoMemory, Ask}
 use Rattle.plant_network.specs.network_links.declared.rest.Rest.{Rest}
 use Rattle.plant_network.specs.network_links.declared.rest.Rest.TheVariants.{Nothing}
 use Rattle.te_links.specs.Rows.{Rows}
-use Rattle.atomic_table.specs.Seated.{TableId}
-use Rattle.plant_lock.specs.declared.view.View.{View}
 use Rattle.plant_lock.specs.History.{Admitted, Legal, entries_at, replay}
-use Rattle.plant_lock.specs.Views.{Adds, LegalFrom}
+use Rattle.plant_lock.specs.Views.{LegalFrom}
 use Rattle.plant_lock.proofs.Lists.{legal_front}
 use Rattle.plant_lock.proofs.Turns.{last_allowed}
 use Rattle.plant_network.specs.plant_model.declared.event.Event.{Event}
@@ -42,11 +40,18 @@ use Rattle.plant_network.specs.pce_parent.declared.work.Work.{Work}
 use Rattle.plant_network.specs.pce_parent.declared.work.Work.TheVariants as work
 use Rattle.server_loops.specs.Desks as desk
 use Rattle.server_loops.specs.Desks.{Answer, Goes, GoesTelling, call_telling}
-use Rattle.server_loops.specs.declared.desks.DeskRefused.{DeskRefused}
 use Rattle.server_loops.specs.declared.desks.DeskRefused.TheVariants.{Plant, Spent}
 use Rattle.server_loops.specs.Benches as bench
 use Rattle.turn_desk.specs.Desks.{IsAtLock, IsDone, IsOneTurn, IsOpened, IsStill, IsTaken, IsTurn, IsTurnBy, IsTurnTelling, Makes, Rests, Stand, bench_call, benched_of, desk_call, desked_of, did_as, did_by, taken_as, told_of}
+use Rattle.turn_desk.specs.Desks.{stand_on}
+use Rattle.turn_desk.specs.Seats.{Seated}
 use Rattle.turn_desk.specs.Histories.{Begins, known_by}
+use Rattle.kept_plant.specs.Histories.{turn_of, turns_of}
+use Rattle.kept_plant.specs.Turns.{KeptAdmits, KeptWarrants}
+use Rattle.kept_plant.specs.declared.acts.KeptAct.{KeptAct}
+use Rattle.kept_plant.specs.declared.acts.KeptAct.TheVariants.{Turn}
+use Rattle.kept_plant.specs.declared.acts.KeptAnswer.{KeptAnswer}
+use Rattle.kept_plant.specs.declared.acts.KeptAnswer.TheVariants.{Turned}
 use Rattle.turn_desk.proofs.Beginning.{none_is_now}
 use Rattle.turn_desk.proofs.Found.{own_is_seen, picked_from, split_at}
 use Rattle.turn_desk.proofs.Runs.{known_grows, knows_more, pins_are_known}
@@ -57,21 +62,6 @@ own_load (event.Load d g) is = is
 own_load e is = tt
 
 -- ---- a turn of the seat
-
--- what a turn makes of what a seat knows
-pub seat_makes : (lock at : TableId) (v w : View Held Act ActAnswer) (own owned : List (Act × ActAnswer)) (spent : Option ℕ) (act : Act) (n : ℕ) (turn : ActAnswer) → at ≡ lock → spent ≡ None → Adds whole Admits Allowed left_by v act n turn w →
-    owned ≡ own ++ (act, turn) ∷ [] →
-    Makes (record { lock = lock; start = v.start; seen = v.seen; own = own; met = v.met; spent = spent }) (record { lock = at; start = w.start; seen = w.seen; own = owned; met = w.met; spent = spent }) act turn
-seat_makes lock at v w own owned spent act n turn here none adds is = record {
-  before = v.seen ++ adds.between;
-  begins = (adds.between, refl);
-  seen = adds.grown;
-  own = is;
-  lock = here;
-  start = adds.same_start;
-  legal = adds.legal;
-  spent = (none, none);
-}
 
 -- the answer to the act of a turn was allowed
 pub answered : (old new : Stand) (act : Act) (turn : ActAnswer) (m : Makes old new act turn) → (x : Held) × (new.start ≡ Some x) × Admits (replay left_by (whole x) m.before) act × Allowed (replay left_by (whole x) m.before) act turn
@@ -329,9 +319,6 @@ looks_given old new d k (Err why) t begun = tt
 
 -- ---- what a finish is warranted by
 
-abbrev Warranted : Act → ActAnswer → Act → Type 0
-Warranted act turn next = Warrants act turn.acted next
-
 solved_by : (job : Work) (x : Done) → bench.IsOf x job → IsSolvedBy job x
 solved_by (work.Domain j) (done.Domain x) is = is
 solved_by (work.Border j) (done.Border x) is = is
@@ -346,10 +333,17 @@ look_warrants (Ready l) (Found r) d k job x is by = absurd (let no : ⊥ = cc in
 look_warrants (Finish y) (Committed r) d k job x is by = absurd (let no : ⊥ = cc in no)
 look_warrants act acted d k job x is by = absurd (let no : ⊥ = cc in no)
 
-pub may_finish : (s : Stand) (places : List ℕ) (x : Done) → s.own ≡ entries_at s.seen places → bench.WasGiven (benched_of s) x → Admitted Admits Warranted s.seen (Finish x)
+kept_warrants : (a : KeptAct) (r : KeptAnswer) (e : Act × ActAnswer) (x : Done) → turn_of a r ≡ Some e → Warrants e.0 e.1.acted (Finish x) → KeptWarrants a r (Turn (Finish x))
+kept_warrants (Turn a) (Turned t tape) e x is warrant = let same : (a, t) ≡ e = cc in subst (λ (z : Act × ActAnswer). Warrants z.0 z.1.acted (Finish x)) (sym same) warrant
+kept_warrants a r e x is warrant = absurd (let no : ⊥ = cc in no)
+
+pub may_finish : (s : Seated) (places : List ℕ) (x : Done) → s.own ≡ entries_at s.seen places → bench.WasGiven (benched_of (stand_on s)) x → Admitted KeptAdmits KeptWarrants s.seen (Turn (Finish x))
 may_finish s places x own given =
-    let found = picked_from (λ (e : Act × ActAnswer). bench_call e.0 e.1.acted) s.own (bench.Look given.at given.number (Ok (Some given.work))) given.looked in
+    let found = picked_from (λ (e : Act × ActAnswer). bench_call e.0 e.1.acted) (turns_of s.own) (bench.Look given.at given.number (Ok (Some given.work))) given.looked in
     let e : Act × ActAnswer = found.0 in
-    let seen = own_is_seen s.seen places e (subst (λ (es : List (Act × ActAnswer)). Contains es e) own found.1) in
-    let parts = split_at s.seen e seen in
-    inr (parts.0, e, parts.1, parts.2, look_warrants e.0 e.1.acted given.at given.number given.work x found.2 (solved_by given.work x given.is_of))
+    let source = picked_from (λ (k : KeptAct × KeptAnswer). turn_of k.0 k.1) s.own e found.1 in
+    let k : KeptAct × KeptAnswer = source.0 in
+    let seen = own_is_seen s.seen places k (subst (λ (es : List (KeptAct × KeptAnswer)). Contains es k) own source.1) in
+    let parts = split_at s.seen k seen in
+    let warrant : Warrants e.0 e.1.acted (Finish x) = look_warrants e.0 e.1.acted given.at given.number given.work x found.2 (solved_by given.work x given.is_of) in
+    inr (parts.0, k, parts.1, parts.2, kept_warrants k.0 k.1 e x source.2 warrant)

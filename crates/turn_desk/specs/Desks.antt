@@ -5,8 +5,12 @@ use Rattle.atomic_table.specs.Seated.{TableId}
 use Rattle.plant_lock.specs.declared.seat.TurnSeat.{TurnSeat}
 use Rattle.plant_lock.specs.declared.turned.Turned.{Ghosts}
 use Rattle.plant_lock.specs.History.{StartsWith}
-use Rattle.plant_lock.specs.Seats.{met_by, own_entries, seen_by, shares_of, view_of}
+use Rattle.plant_lock.specs.Seats.{shares_of}
 use Rattle.plant_lock.specs.Views.{LegalFrom}
+use Rattle.kept_plant.specs.Histories.{turns_of}
+use Rattle.kept_plant.specs.declared.acts.KeptAct.{KeptAct}
+use Rattle.kept_plant.specs.declared.acts.KeptAnswer.{KeptAnswer}
+use Rattle.kept_plant.specs.declared.kept.KeptPlant.{KeptPlant}
 use Rattle.plant_network.specs.Topologies.{Held, whole}
 use Rattle.plant_network.specs.Turns.{Admits, Allowed, left_by}
 use Rattle.plant_network.specs.plant_model.declared.outcome.Outcome.{Outcome}
@@ -29,7 +33,8 @@ use Rattle.server_loops.specs.Benches as bench
 use Rattle.server_loops.specs.Benches.{Benched}
 use Rattle.server_loops.specs.declared.benches.Finished.{Finished}
 use Rattle.server_loops.specs.declared.benches.Finished.TheVariants as finished
-use Rattle.turn_desk.specs.Histories.{known_by}
+use Rattle.turn_desk.specs.Histories.{known_by, plant_at}
+use Rattle.turn_desk.specs.Seats.{Seated, seated}
 use Rattle.turn_desk.specs.declared.desk.TurnDesk.{TurnDesk}
 
 -- ---- what a desk stands for
@@ -44,9 +49,13 @@ pub record Stand : Type 0 where
   pub met : ℕ
   pub spent : Option ℕ
 
+-- of what is kept at the lock a desk sees the network and its turns
+abbrev pub stand_on : Seated → Stand
+stand_on s = record { lock = s.lock; start = plant_at s.start; seen = turns_of s.seen; own = turns_of s.own; met = s.met; spent = s.spent }
+
 -- of a seat, and of a desk that was spent at this number
-abbrev pub stand_at : {g : Ghosts Held Act ActAnswer} → TurnSeat Held Act ActAnswer g → Option ℕ → Stand
-stand_at {g} seat spent = record { lock = seat.seat.table_id; start = (view_of seat).start; seen = seen_by seat; own = own_entries seat; met = met_by seat; spent = spent }
+abbrev pub stand_at : {g : Ghosts KeptPlant KeptAct KeptAnswer} → TurnSeat KeptPlant KeptAct KeptAnswer g → Option ℕ → Stand
+stand_at {g} seat spent = stand_on (seated seat spent)
 
 abbrev pub stand_of : {R : Type 0} → TurnDesk R → Stand
 stand_of {R} d = stand_at d.seat d.spent_at

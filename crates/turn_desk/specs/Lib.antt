@@ -1,5 +1,8 @@
 -- for readers
 pub mod Histories
+pub mod Seats
+pub mod Opened
+pub mod Telling
 pub mod Desks
 pub mod Standings
 pub mod Charts

@@ -9,10 +9,37 @@ ghost use Rattle.plant_network.specs.pce_element.pce_common.declared.rounds.Aske
 ghost use Rattle.plant_network.specs.pce_element.pce_common.declared.refusal.Refusal.{Refusal};
 ghost use Rattle.plant_network.specs.pce_parent.declared.work.Done.{Done};
 ghost use Rattle.plant_network.specs.pce_parent.declared.work.Work.{Work};
+ghost use Rattle.event_tape.specs.declared.tape.Handed.{Handed as HandedOut};
+ghost use Rattle.kept_plant.specs.declared.acts.KeptAnswer.TheVariants.{Handed as HandedSo};
+ghost use Rattle.turn_desk.specs.Seats.{IsTurned, IsTurnedAs};
 
 use dom_base::{As, NoMemory};
+use kept_plant::{Handed, KeptAnswer};
 use plant_network::model::{Outcome, Refused};
-use plant_network::{Acted, AskedJob, Done, Refusal, Work};
+use plant_network::{ActAnswer, Acted, AskedJob, Done, Refusal, Work};
+
+/// What the network answered.
+pub(crate) fn turned_in(answer: KeptAnswer) -> ActAnswer
+    requires { IsTurned answer }
+    ensures { IsTurnedAs answer result }
+{
+    match answer {
+        KeptAnswer::Turned(turn, _tape) => turn,
+        KeptAnswer::Handed(_handed) => unreachable!(),
+        KeptAnswer::Stopped => unreachable!(),
+    }
+}
+
+/// What the tape handed out.
+pub(crate) fn handed_in(answer: KeptAnswer) -> Handed
+    requires { (h : HandedOut) × (answer ≡ HandedSo h) }
+    ensures { answer ≡ HandedSo result }
+{
+    match answer {
+        KeptAnswer::Handed(handed) => handed,
+        _ => unreachable!(),
+    }
+}
 
 /// What became of an event.
 pub(crate) fn did_in(acted: Acted) -> Result<Outcome, Refused>

@@ -1,6 +1,7 @@
-//! The board of a server: what wakes its threads, the ways along which messages wait, and which job each worker is at. No clause speaks
-//! of it.
+//! The board of a server: what wakes its threads, the ways along which messages wait, which job each worker is at, and when the server
+//! ends. No clause speaks of it.
 use crate::claims::Claims;
+use crate::ending::Ending;
 use crate::line::Line;
 use crate::rounds::Rounds;
 use dom_base::{As, NoMemory};
@@ -27,6 +28,7 @@ pub struct Bells {
     workers: Vec<Chime>,
     claims: Claims,
     line: Line,
+    ending: Ending,
 }
 
 fn places(alloc: Global, count: usize) -> Result<Vec<OnceLock<Bell>>, NoMemory> {
@@ -56,6 +58,7 @@ impl Bells {
             workers,
             claims: Claims::new(),
             line: Line::new(alloc)?,
+            ending: Ending::new(),
         })
     }
 
@@ -79,6 +82,11 @@ impl Bells {
     /// Which job each worker is at.
     pub(crate) fn claims(&self) -> &Claims {
         &self.claims
+    }
+
+    /// When the server ends.
+    pub(crate) fn ending(&self) -> &Ending {
+        &self.ending
     }
 
     /// Where sessions stand that have much to do.

@@ -60,6 +60,15 @@ impl<R: Wait + Clock> Chart for TurnDesk<R> {
         }
     }
 
+    fn halt(&mut self) -> Result<(), u64>
+        ensures halts { chart.Halts (charted_of (stand_of self.old)) (charted_of (stand_of self.new)) result }
+        ensures stays { IsStill (stand_of self.old) (stand_of self.new) }
+    {
+        let stopped = self.stop();
+        self.ask_to_end();
+        stopped
+    }
+
     fn spent(&self) -> Option<u64> {
         self.spent_at
     }

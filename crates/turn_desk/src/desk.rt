@@ -1,12 +1,12 @@
 //! A desk: a seat at the lock of a network.
 ghost use Rattle.std.specs.Arc.{arc_value};
 ghost use Rattle.plant_lock.specs.Seats.{IsAt, view_of};
-ghost use Rattle.turn_desk.specs.Histories.{Begins};
+ghost use Rattle.turn_desk.specs.Histories.{Begins, plant_at};
 
 use crate::bells::Bells;
 use crate::line::Place;
+use kept_plant::KeptPlant;
 use plant_lock::{TurnSeat, Turnstile};
-use plant_network::Plant;
 use std::alloc::Global;
 use std::sync::{Arc, Wait};
 use std::time::Clock;
@@ -17,8 +17,8 @@ use std::time::Clock;
 /// Behind each turn it rings those whom the turn stirred, where it has a board of bells.
 pub struct TurnDesk<R: Wait + Clock> {
     pub(crate) rt: R,
-    pub(crate) lock: Arc<Turnstile<Plant>, Global>,
-    pub(crate) seat: TurnSeat<Plant>,
+    pub(crate) lock: Arc<Turnstile<KeptPlant>, Global>,
+    pub(crate) seat: TurnSeat<KeptPlant>,
     pub(crate) spent_at: Option<u64>,
     pub(crate) bells: Option<Arc<Bells, Global>>,
     // the outside peer whose session this desk opened last
@@ -26,7 +26,7 @@ pub struct TurnDesk<R: Wait + Clock> {
     // its place in the line of those that have much to do
     pub(crate) place: Place,
     ghost here: { IsAt (arc_value lock) seat },
-    ghost begun: { Begins (view_of seat).start },
+    ghost begun: { Begins (plant_at (view_of seat).start) },
 }
 
 // Written, so that it is proved in this crate alone.

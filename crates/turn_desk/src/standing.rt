@@ -6,8 +6,8 @@ ghost use Rattle.turn_desk.specs.WorkBenches.{desk_of};
 
 use crate::desk::TurnDesk;
 use crate::workbench::WorkBench;
+use kept_plant::KeptPlant;
 use plant_lock::TurnSeat;
-use plant_network::Plant;
 use server_loops::Sited;
 use std::snapshot::Snapshot;
 use std::sync::Wait;
@@ -16,7 +16,7 @@ use std::time::Clock;
 /// Where a desk stood at a moment: clauses alone read it.
 #[derive(Drop)]
 pub struct Standing {
-    seat: Snapshot<TurnSeat<Plant>>,
+    seat: Snapshot<TurnSeat<KeptPlant>>,
     spent_at: Option<u64>,
 }
 

@@ -4,14 +4,19 @@ ghost use Rattle.std.specs.Arc.{arc_value};
 ghost use Rattle.plant_lock.specs.Seats.{IsAt, MayDo, shares_of, view_of};
 ghost use Rattle.plant_lock.specs.declared.turnstile.SplitError.TheVariants.{NoSeat};
 ghost use Rattle.turn_desk.specs.Desks.{IsOpened, IsTurn, IsTurnTelling, shares_at, split_from, stand_at, stand_of};
-ghost use Rattle.turn_desk.specs.Histories.{Begins, NoneIsPending};
+ghost use Rattle.turn_desk.specs.Histories.{Begins, NoneIsPending, plant_at};
+ghost use Rattle.turn_desk.specs.Opened.{IsOpenedSo};
+ghost use Rattle.turn_desk.specs.Seats.{IsEntry, seat_of, seated};
 ghost use Rattle.plant_network.specs.Topologies.{whole};
+ghost use Rattle.kept_plant.specs.declared.acts.KeptAct.TheVariants.{Turn};
 
+use crate::answers::turned_in;
 use crate::bells::Bells;
 use crate::desk::TurnDesk;
 use crate::line::Place;
 use dom_base::{As, NoMemory};
 use dom_edge::Bell;
+use kept_plant::{KeptAct, KeptAnswer, KeptPlant, Tape};
 use plant_lock::{Spent, SplitError, TurnSeat, Turnstile};
 use plant_network::model::Event;
 use plant_network::{Act, Acted, Plant, Rest, Stirred};
@@ -61,6 +66,14 @@ fn stand_in_line<R: Wait + Clock>(
     }
 }
 
+// The peer whose connection the act shuts.
+fn shut_by(act: &Act) -> Option<u32> {
+    match act {
+        Act::Do(Event::Shut(peer)) => Some(*peer),
+        _ => None,
+    }
+}
+
 // Behind a turn.
 fn step_on<R: Wait + Clock>(
     rt: &R,
@@ -75,9 +88,10 @@ fn step_on<R: Wait + Clock>(
 
 impl<R: Wait + Clock> TurnDesk<R> {
     /// A desk over a lock and a seat of it. It takes no memory, and rings nobody.
-    pub fn new(rt: R, lock: Arc<Turnstile<Plant>, Global>, seat: TurnSeat<Plant>) -> Self
+    pub fn new(rt: R, lock: Arc<Turnstile<KeptPlant>, Global>, seat: TurnSeat<KeptPlant>) -> Self
         requires here { IsAt (arc_value lock) seat }
-        requires begun { Begins (view_of seat).start }
+        requires begun { Begins (plant_at (view_of seat).start) }
+        ensures seat { seat_of result ≡ seated seat None }
         ensures stand { stand_of result ≡ stand_at seat None }
         ensures shares { shares_at result ≡ shares_of seat }
     {
@@ -107,10 +121,16 @@ impl<R: Wait + Clock> TurnDesk<R> {
         }
     }
 
-    // Rings whom a turn of this desk stirred; and this desk's own session, where that is not to wait before it takes more.
-    fn ring(&self, stirred: &Stirred, rest: Rest) {
+    // Rings whom a turn of this desk stirred; the session of another whose connection it shut; and this desk's own session, where that
+    // is not to wait before it takes more.
+    fn ring(&self, stirred: &Stirred, rest: Rest, shut: Option<u32>) {
         if let Some(bells) = &self.bells {
             bells.ring(stirred, self.own);
+            if let Some(peer) = shut
+                && self.own != Some(peer)
+            {
+                bells.ring_peer(peer);
+            }
             if let (Rest::Backlog, Some(peer)) = (rest, self.own) {
                 bells.ring_peer(peer);
             }
@@ -119,7 +139,7 @@ impl<R: Wait + Clock> TurnDesk<R> {
 
     // One turn with this act, or the number at which the desk was spent.
     pub(crate) fn turn(&mut self, act: Act) -> Result<Acted, u64>
-        requires { MayDo self.old.seat act }
+        requires { MayDo self.old.seat (Turn act) }
         ensures { IsTurn act result (stand_of self.old) (stand_of self.new) }
     {
         match self.turn_telling(act) {
@@ -130,23 +150,37 @@ impl<R: Wait + Clock> TurnDesk<R> {
 
     // The same, with what a take leaves to do for its peer.
     pub(crate) fn turn_telling(&mut self, act: Act) -> Result<(Acted, Rest), u64>
-        requires { MayDo self.old.seat act }
+        requires { MayDo self.old.seat (Turn act) }
         ensures { IsTurnTelling act result (stand_of self.old) (stand_of self.new) }
     {
-        if let Some(number) = self.spent_at {
-            return Err(number);
-        }
-        let is_large = is_large(&act);
+        let (is_large, shut) = (is_large(&act), shut_by(&act));
         stand_in_line(&self.rt, &self.bells, &mut self.place, is_large);
-        match self.lock.turn(&self.rt, &mut self.seat, act) {
-            Ok((_place, turn)) => {
-                self.ring(&turn.stirred, turn.rest);
+        match self.enter(KeptAct::Turn(act)) {
+            Ok(answer) => {
+                let turn = turned_in(answer);
+                self.ring(&turn.stirred, turn.rest, shut);
                 let has_more = leaves_more(&turn.acted, is_large, turn.rest);
                 step_on(&self.rt, &self.bells, &mut self.place, has_more);
                 Ok((turn.acted, turn.rest))
             }
-            Err(Spent(number)) => {
+            Err(number) => {
                 step_on(&self.rt, &self.bells, &mut self.place, false);
+                Err(number)
+            }
+        }
+    }
+
+    // One turn with this act of whatever is kept at the lock, or the number at which the desk was spent.
+    pub(crate) fn enter(&mut self, act: KeptAct) -> Result<KeptAnswer, u64>
+        requires { MayDo self.old.seat act }
+        ensures { IsEntry act result (seat_of self.old) (seat_of self.new) }
+    {
+        if let Some(number) = self.spent_at {
+            return Err(number);
+        }
+        match self.lock.turn(&self.rt, &mut self.seat, act) {
+            Ok((_place, answer)) => Ok(answer),
+            Err(Spent(number)) => {
                 self.spent_at = Some(number);
                 Err(number)
             }
@@ -155,20 +189,55 @@ impl<R: Wait + Clock> TurnDesk<R> {
 }
 
 impl<R: Wait + Clock + Drop> TurnDesk<R> {
-    /// A desk over a new lock round the network, with as many shares as there may be desks, and with a new board of bells. Without
-    /// memory the network is dropped.
+    /// A desk over a new lock round the network, with as many shares as there may be desks, and with a new board of bells. Nothing of
+    /// its turns is kept. Without memory the network is dropped.
     pub fn open(rt: R, alloc: Global, plant: Plant, seats: u32) -> Result<Self, NoMemory>
         requires seats { 0 < seats }
         requires begun { NoneIsPending (whole plant).state }
         ensures stand { IfOk result (λ desk. IsOpened plant (stand_of desk)) }
         ensures shares { IfOk result (λ desk. shares_at desk ≡ seats) }
     {
+        TurnDesk::open_taped(rt, alloc, plant, Tape::off(alloc), seats)
+    }
+
+    /// The same, where what is told of its turns goes on this tape.
+    pub fn open_taped(
+        rt: R,
+        alloc: Global,
+        plant: Plant,
+        tape: Tape,
+        seats: u32,
+    ) -> Result<Self, NoMemory>
+        requires seats { 0 < seats }
+        requires begun { NoneIsPending (whole plant).state }
+        ensures stand { IfOk result (λ desk. IsOpened plant (stand_of desk)) }
+        ensures tape { IfOk result (λ desk. IsOpenedSo tape (seat_of desk)) }
+        ensures shares { IfOk result (λ desk. shares_at desk ≡ seats) }
+    {
         let bells = Arc::new(alloc, Bells::new(alloc)?)?;
-        let (lock, seat) = Turnstile::open(alloc, plant, seats)?;
-        let lock = Arc::new(alloc, lock)?;
-        let mut desk = TurnDesk::new(rt, lock, seat);
+        let mut desk = TurnDesk::open_silent(rt, alloc, plant, tape, seats)?;
         desk.bells = Some(bells);
         Ok(desk)
+    }
+
+    // The same without a board.
+    fn open_silent(
+        rt: R,
+        alloc: Global,
+        plant: Plant,
+        tape: Tape,
+        seats: u32,
+    ) -> Result<Self, NoMemory>
+        requires seats { 0 < seats }
+        requires begun { NoneIsPending (whole plant).state }
+        ensures stand { IfOk result (λ desk. IsOpened plant (stand_of desk)) }
+        ensures tape { IfOk result (λ desk. IsOpenedSo tape (seat_of desk)) }
+        ensures shares { IfOk result (λ desk. shares_at desk ≡ seats) }
+    {
+        let kept = KeptPlant::new(alloc, plant, tape);
+        let (lock, seat) = Turnstile::open(alloc, kept, seats)?;
+        let lock = Arc::new(alloc, lock)?;
+        Ok(TurnDesk::new(rt, lock, seat))
     }
 
     /// A further desk over the same lock and the same board, which has seen as much and has made no turn. It has one share, which this desk gives

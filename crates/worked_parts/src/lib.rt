@@ -24,6 +24,8 @@ mod sessions;
 #[cfg(test)]
 mod stirs;
 #[cfg(test)]
+mod taped;
+#[cfg(test)]
 mod turns;
 #[cfg(test)]
 mod unused;

@@ -150,6 +150,13 @@ impl Chart for Script {
         answer
     }
 
+    fn halt(&mut self) -> Result<(), u64> {
+        match self.spent_at {
+            Some(number) => Err(number),
+            None => Ok(()),
+        }
+    }
+
     fn spent(&self) -> Option<u64> {
         self.spent_at
     }

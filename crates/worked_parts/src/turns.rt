@@ -18,12 +18,12 @@ use te_links::Topology;
 use te_text::read_topology;
 use turn_desk::{Circle, TurnDesk, WorkBench};
 
-const AT: As = As(1);
+pub(crate) const AT: As = As(1);
 
 // How often a gate looks, once a millisecond, before it gives up.
 const LOOKS: u32 = 20_000;
 
-const SETTINGS: &[u8] = b"[[element]]
+pub(crate) const SETTINGS: &[u8] = b"[[element]]
 as = 1
 id = \"192.0.2.1\"
 
@@ -91,7 +91,7 @@ fn feed<D: Desk>(alloc: Global, desk: &mut D) -> Option<Outcome> {
 }
 
 // The element loads its topology, and its client opens the session and asks twice.
-fn ask<D: Desk>(alloc: Global, desk: &mut D) -> Option<()> {
+pub(crate) fn ask<D: Desk>(alloc: Global, desk: &mut D) -> Option<()> {
     load(alloc, desk)?;
     desk.act(Event::Open(0, 7)).ok()?;
     feed(alloc, desk)?;
@@ -111,7 +111,7 @@ fn hears<D: Desk>(desk: &mut D, wanted: &[u8]) -> bool {
 
 // A gate that lets the first of two jobs pass once the second was finished, or gives up. It looks by a desk of its own.
 #[derive(Drop)]
-struct Door<R: Abort + Wait + Clock> {
+pub(crate) struct Door<R: Abort + Wait + Clock> {
     rt: R,
     desk: TurnDesk<R>,
     is_open: bool,
@@ -143,7 +143,7 @@ impl<R: Abort + Wait + Clock> Gate for Door<R> {
     }
 }
 
-fn make_door<R: Abort + Wait + Clock>(
+pub(crate) fn make_door<R: Abort + Wait + Clock>(
     rt: R,
     alloc: Global,
     desk: TurnDesk<R>,
@@ -159,7 +159,7 @@ fn make_door<R: Abort + Wait + Clock>(
 }
 
 // Turns of a worker with a new cache, in which just these jobs pass its gate. None where it does not end so, or the gate gives up.
-fn run<R: Abort + Wait + Clock + Drop>(
+pub(crate) fn run<R: Abort + Wait + Clock + Drop>(
     alloc: Global,
     mut desk: TurnDesk<R>,
     mut door: Door<R>,

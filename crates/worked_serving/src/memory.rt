@@ -1,7 +1,10 @@
 //! Networks that are served in memory: which tasks are started, in which order, and why it ends before.
 use dom_base::{As, Bytes, List, Text, Tick, write_number};
-use dom_edge::{MemoryClock, MemoryListener, MemoryPorts, MemorySink, MemorySource, MemoryStore};
-use network_serving::{Duty, MemorySpawner, Served, Spawner, serve};
+use dom_edge::{
+    MemoryCalendar, MemoryClock, MemoryFolder, MemoryListener, MemoryPorts, MemorySink,
+    MemorySource, MemoryStore,
+};
+use network_serving::{Duty, MemorySpawner, Recording, Served, Spawner, serve};
 use std::alloc::Global;
 use std::sync::Wait;
 use std::test::Fail;
@@ -115,12 +118,18 @@ fn put_duty(duty: &Duty, into: &mut Vec<u8>) -> Result<(), Fail> {
         Duty::Watch(port, index) => {
             put_words(b"watch", &[u64::from(*port), u64::from(*index)], into)
         }
+        Duty::Record => put_words(b"record", &[], into),
     }
 }
 
 fn put_end(served: &Served, into: &mut Vec<u8>) -> Result<(), Fail> {
     match served {
         Served::Turns => put_words(b"turns", &[], into),
+        Served::Stopped => put_words(b"stopped", &[], into),
+        Served::NoRecord(name) => {
+            into.extend_from_slice(b"no record ")?;
+            put_words(name.as_str().as_bytes(), &[], into)
+        }
         Served::ReadFault => put_words(b"read fault", &[], into),
         Served::TooLarge(_) => put_words(b"too large", &[], into),
         Served::BadNetwork { line, .. } => put_words(b"bad network", &[u64::from(*line)], into),
@@ -160,13 +169,46 @@ struct Run {
     log: MemorySink,
 }
 
+// What a record is asked for with: the call of its folder that fails, by its number from 0.
+type Asked = Option<Recording<MemoryFolder, MemoryCalendar, MemorySink>>;
+
+fn recording(alloc: Global, call: u64) -> Result<Asked, Fail> {
+    Ok(Some(Recording {
+        folder: MemoryFolder::new(
+            alloc,
+            List::new(alloc),
+            List::new(alloc),
+            only(alloc, call)?,
+        ),
+        place: Text::copy_of(alloc, "/runs")?,
+        calendar: MemoryCalendar::new(List::new(alloc)),
+        version: Text::copy_of(alloc, "pce")?,
+        log: MemorySink::new(alloc, List::new(alloc)),
+    }))
+}
+
 fn serve_once<R>(rt: R, alloc: Global, settings: &[u8], port: u64, thread: u64) -> Result<Run, Fail>
+where
+    R: Threads + Wait + Clock + Copy + Send + Drop + 'static,
+{
+    serve_asked(rt, alloc, settings, port, thread, None)
+}
+
+fn serve_asked<R>(
+    rt: R,
+    alloc: Global,
+    settings: &[u8],
+    port: u64,
+    thread: u64,
+    asked: Asked,
+) -> Result<Run, Fail>
 where
     R: Threads + Wait + Clock + Copy + Send + Drop + 'static,
 {
     let mut spawner: Spawner<R> = Spawner::Memory(MemorySpawner::new(alloc, only(alloc, thread)?));
     let mut log = MemorySink::new(alloc, List::new(alloc));
     let mut told = None;
+    let mut asked = asked;
     let served = serve(
         rt,
         alloc,
@@ -182,6 +224,7 @@ where
         "127.0.0.1",
         3,
         &mut told,
+        &mut asked,
     );
     let mut end = Vec::new(alloc);
     put_end(&served, &mut end)?;
@@ -234,6 +277,38 @@ fn a_fault_ends_it(rt: HostRuntime) -> Result<(), Fail> {
     for (port, thread, end, lines) in FAULTS {
         let run = serve_once(rt, rt.alloc(), SETTINGS, port, thread)?;
         assert_eq!(rt; run.end, ended(end, lines, rt.alloc())?);
+    }
+    Ok(())
+}
+
+// What writes a record is started behind all others.
+#[test]
+fn a_record_is_started_last(rt: HostRuntime) -> Result<(), Fail> {
+    let alloc = rt.alloc();
+    let run = serve_asked(rt, alloc, SETTINGS, NEVER, NEVER, recording(alloc, NEVER)?)?;
+    let mut end = ended(b"turns\n", 14, alloc)?;
+    end.extend_from_slice(b"record\n")?;
+    assert_eq!(rt; run.end, end);
+    let unstarted = serve_asked(rt, alloc, SETTINGS, NEVER, 14, recording(alloc, NEVER)?)?;
+    assert_eq!(rt; unstarted.end, ended(b"no thread\n", 14, alloc)?);
+    Ok(())
+}
+
+// A row: the call of the folder that fails, and the end. No task is started by then.
+const UNRECORDED: [(u64, &[u8]); 4] = [
+    (0, b"no record /runs/19700101T000000Z\n"),
+    (1, b"no record /runs/net.toml\n"),
+    (2, b"no record /runs/net.toml\n"),
+    (3, b"no record /runs/000001.play\n"),
+];
+
+#[test]
+fn without_its_record_nothing_is_started(rt: HostRuntime) -> Result<(), Fail> {
+    let alloc = rt.alloc();
+    for (call, end) in UNRECORDED {
+        let run = serve_asked(rt, alloc, SETTINGS, NEVER, NEVER, recording(alloc, call)?)?;
+        assert_eq!(rt; run.end.as_slice(), end);
+        assert!(rt; run.log.bytes().is_empty());
     }
     Ok(())
 }

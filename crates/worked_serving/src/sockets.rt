@@ -1,7 +1,9 @@
 //! A network that is served over the sockets of the machine: its clients are answered, each at once.
 use dom_base::{Bytes, List, Text};
-use dom_edge::{MemorySink, MemorySource, MemoryStore, SocketPorts, WallClock};
-use network_serving::{Served, Spawner, ThreadSpawner, serve};
+use dom_edge::{
+    MemoryCalendar, MemoryFolder, MemorySink, MemorySource, MemoryStore, SocketPorts, WallClock,
+};
+use network_serving::{Recording, Served, Spawner, ThreadSpawner, serve};
 use std::alloc::Global;
 use std::io::{Read, Write};
 use std::net::{IpAddr, Ipv4Addr, TcpListener, TcpStream};
@@ -93,6 +95,11 @@ fn ask_both(rt: HostRuntime, ports: [u16; 2]) -> Option<[[u8; 72]; 2]> {
     Some([ask(&mut one), ask(&mut other)])
 }
 
+// No record is asked for.
+fn unrecorded() -> Option<Recording<MemoryFolder, MemoryCalendar, MemorySink>> {
+    None
+}
+
 #[test]
 fn each_client_is_answered(rt: HostRuntime) -> Result<(), Fail> {
     let alloc = rt.alloc();
@@ -117,6 +124,7 @@ fn each_client_is_answered(rt: HostRuntime) -> Result<(), Fail> {
         "127.0.0.1",
         100,
         &mut told,
+        &mut unrecorded(),
     );
     assert!(rt; matches!(served, Served::Turns));
     assert_eq!(rt; clients.join(&rt), Some([ANSWER, ANSWER]));

@@ -10,6 +10,6 @@ returns-in_err-desk-clause-err g c =
     let new = c.open_loaded.new.store in
     let end : IsLoadEnd (g.T.Store.files old) c.args.name.now (g.T.Store.faults old, g.T.Store.faults new) (g.T.Store.failed_at new) c.in_err-desk.field-0.0 =
     open_end (g.T.Store.files old) (g.T.Store.files mid) c.args.name.now _ (g.T.Store.faults old) (g.T.Store.faults mid) (g.T.Store.faults new) (g.T.Store.failed_at new) c.in_err-desk.field-0.0
-    c.in_ok-network.ensures.ok.1 c.in_ok-network.ensures.files c.in_ok-network.ensures.later c.in_err-desk.ensures.err in
+    c.in_ok-network.ensures.ok c.in_ok-network.ensures.files c.in_ok-network.ensures.later c.in_err-desk.ensures.err in
     let from = c.from_residual-in_err-desk.ensures in
     search (rules, end, from)

@@ -13,8 +13,8 @@ loop-turn-preserved g c =
     let now = g.C.Clock.last c.loop-turn.clock in
     let reading = c.now-now.result.0 in
     record {
-      telling = subst (λ n. IsTelling (c.loop-turn._turn + 1) c.tell-told.result old new last n) (sym c.now-now.ensures.reading)
-          (one_told c.loop-turn._turn c.loop-turn.told old mid new last now c.loop-turn.invariant.telling reading c.now-now.ensures.never_falls c.tell-told.result c.tell-told.ensures.told);
+      telling = subst (λ n. IsTelling (c.loop-turn.turn + 1) c.tell-told.result old new last n) (sym c.now-now.ensures.reading)
+          (one_told c.loop-turn.turn c.loop-turn.told old mid new last now c.loop-turn.invariant.telling reading c.now-now.ensures.never_falls c.tell-told.result c.tell-told.ensures.told);
       stays = λ site is. c.tell-told.ensures.stays site (c.loop-turn.invariant.stays site is);
-      counted = c.now-now.ensures.counted ∙ ap next_count c.loop-turn.invariant.counted ∙ sym (counted_more c.loop-turn._turn (g.C.Clock.readings c.args.clock.now));
+      counted = c.now-now.ensures.counted ∙ ap next_count c.loop-turn.invariant.counted ∙ sym (counted_more c.loop-turn.turn (g.C.Clock.readings c.args.clock.now));
     }

@@ -4,11 +4,12 @@ use Rattle.plant_network.specs.declared.acts.Acted.{Acted}
 use Rattle.plant_network.specs.declared.acts.Acted.TheVariants.{Committed}
 use Rattle.server_loops.specs.Benches as bench
 use Rattle.turn_desk.specs.Desks.{IsTurn, stand_of}
+use Rattle.turn_desk.specs.Seats.{seat_of}
 use Rattle.turn_desk.proofs.Turning.{bench_done, committed_turn, may_finish, turn_still}
 use Rattle.turn_desk.proofs.calls.TurnDeskBench.finish.Goals as goal
 
 pub turn-requires : goal.turn-requires
-turn-requires g c = may_finish (stand_of c.args.self.now) c.args.self.now.seat.seat.me.0.places c.args.done refl c.requires
+turn-requires g c = may_finish (seat_of c.args.self.now) c.args.self.now.seat.seat.me.0.places c.args.done refl c.requires
 
 pub committed_in-requires : goal.committed_in-requires
 committed_in-requires g c =

@@ -1,18 +1,30 @@
-use Rattle.std.proofs.Common.{◌≡◌, ◌∙◌, ap, refl, sym}
-use Rattle.std.specs.Arc.{arc_value}
-use Rattle.atomic_table.specs.Seated.{TableId}
-use Rattle.plant_lock.specs.Seats.{own_entries, view_of}
-use Rattle.turn_desk.proofs.Turning.{seat_makes}
+use Rattle.std.proofs.Common.{Err, Ok, refl}
+use Rattle.kept_plant.specs.declared.acts.KeptAct.TheVariants.{Turn}
+use Rattle.turn_desk.specs.Seats.{IsEntry, seat_of}
+use Rattle.turn_desk.proofs.Seating.{rested, turn_is_turned, turn_made}
 use Rattle.turn_desk.proofs.desk.TurnDesk.turn_telling.Goals as goal
+
+pub turned_in-turn-requires : goal.turned_in-turn-requires
+turned_in-turn-requires g c =
+    let old = seat_of c.args.self.now in
+    let new = seat_of c.enter.new.self in
+    let e : IsEntry (Turn c.args.act) (Ok c.in-Ok.answer) old new = rw c.in-Ok.is at c.enter.ensures in
+    turn_is_turned old new c.args.act c.in-Ok.answer e
 
 pub returns-in-Ok : goal.returns-in-Ok
 returns-in-Ok g c =
-    let old = c.args.self.now.seat in
-    let new = c.turn.new.seat in
-    let same : c.deref.result.now.table.shared.table_id ≡ (arc_value c.args.self.now.lock).table.shared.table_id = ap (λ t. t.table.shared.table_id) c.deref.ensures in
-    let here : new.seat.table_id ≡ old.seat.table_id = c.turn.ensures.here ∙ same ∙ sym c.args.self.now.here in (
-      c.in-Ok.turn,
+    let old = seat_of c.args.self.now in
+    let new = seat_of c.enter.new.self in
+    let e : IsEntry (Turn c.args.act) (Ok c.in-Ok.answer) old new = rw c.in-Ok.is at c.enter.ensures in (
+      c.turned_in-turn.result,
       refl,
       refl,
-      seat_makes old.seat.table_id new.seat.table_id (view_of old) (view_of new) (own_entries old) (own_entries new) c.args.self.now.spent_at c.args.act c.in-Ok._place c.in-Ok.turn here c.in_default.is c.in-Ok.ensures.done c.in-Ok.ensures.own,
+      turn_made old new c.args.act c.in-Ok.answer c.turned_in-turn.result c.turned_in-turn.ensures e,
     )
+
+pub returns-in-Err : goal.returns-in-Err
+returns-in-Err g c =
+    let old = seat_of c.args.self.now in
+    let new = seat_of c.enter.new.self in
+    let e : IsEntry (Turn c.args.act) (Err c.in-Err.number) old new = rw c.in-Err.is at c.enter.ensures in
+    rested old new c.in-Err.number e

@@ -1,0 +1,6 @@
+-- for readers
+pub mod Tapes
+pub mod Hands
+-- inner
+pub mod Fields
+pub mod Counting

@@ -1,0 +1,4 @@
+pub mod Folds
+pub mod Tells
+pub mod Handing
+pub mod Crossing

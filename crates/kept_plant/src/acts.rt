@@ -1,0 +1,25 @@
+//! What may be done to a network of whose turns something is kept.
+use dom_base::List;
+use event_tape::{Handed, Tape, Told};
+use plant_network::{Act, ActAnswer};
+use std::snapshot::Snapshot;
+
+/// What may be done in a turn.
+#[derive(Drop)]
+pub enum KeptAct {
+    /// An act of the network.
+    Turn(Act),
+    /// The tape hands out what it holds, and goes on in the memory of this list, whose items are dropped.
+    Hand(List<Told>),
+    /// The tape ends.
+    Stop,
+}
+
+/// What an act answers.
+#[derive(Drop)]
+pub enum KeptAnswer {
+    /// What the network answers, and the tape that the turn left. Contracts alone speak of that tape: want of memory leaves a choice.
+    Turned(ActAnswer, Snapshot<Tape>),
+    Handed(Handed),
+    Stopped,
+}

@@ -1,0 +1,9 @@
+mod Reasons
+mod Events
+mod Books
+mod Standing
+mod Closing
+mod FirstPart
+mod Writing
+mod LastPart
+mod HandLaws
