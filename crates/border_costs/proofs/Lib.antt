@@ -10,3 +10,4 @@ pub mod Heads
 pub mod Members
 pub mod Composing
 mod TablePairs
+pub mod Placed

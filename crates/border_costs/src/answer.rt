@@ -13,3 +13,11 @@ pub struct Answer {
     pub target_known: bool,
     pub certificate: Certificate,
 }
+
+/// The answer to an ask without the labels: what an element needs of it to go on.
+#[derive(Drop)]
+pub struct BestWays {
+    pub best: List<Best>,
+    pub source_known: bool,
+    pub target_known: bool,
+}

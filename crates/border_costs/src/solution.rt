@@ -1,14 +1,15 @@
-//! The rows of an ask, by one search.
+//! The rows of an ask, by one search: with the labels of all nodes, or without.
 ghost use Rattle.std.specs.Prelude.{◌≡◌, ◌↔◌, Contains, IfOk, IsTrue};
-ghost use Rattle.border_costs.specs.Solutions.{AreRows, IsKnownTarget};
+ghost use Rattle.border_costs.specs.Solutions.{AreRows, AreBestWays, IsKnownTarget};
 
-use crate::answer::Answer;
+use crate::answer::{Answer, BestWays};
 use crate::best::best_rows;
 use crate::job::{Ask, Target};
 use crate::labelled::certificate_of;
+use crate::places::places_of;
 use crate::seeds::seeds_of;
 use dom_base::{Addr, List, NoMemory};
-use path_search::search;
+use path_search::{LabelsTo, search, search_to};
 use std::alloc::Global;
 use te_links::Links;
 
@@ -41,12 +42,35 @@ pub fn solve_rows<'a, G: Links<'a>>(
 {
     let seeds = seeds_of(alloc, ask, links)?;
     let labels = search(alloc, links, &ask.query, &seeds)?;
-    let best = best_rows(alloc, ask, links, &seeds, &labels)?;
-    let certificate = certificate_of(alloc, ask, links, &seeds, &labels)?;
+    let reach = ask.query.cap;
+    let found = LabelsTo { labels, reach };
+    let best = best_rows(alloc, ask, links, &seeds, &found)?;
+    let certificate = certificate_of(alloc, ask, links, &seeds, &found.labels)?;
     Ok(Answer {
         best: List::from_vec(best),
         source_known: is_node(links, ask.source),
         target_known: knows_target(links, ask.target),
         certificate,
+    })
+}
+
+/// The rows of an ask as `solve_rows` gives them, without the labels: the search ends as soon as the
+/// label of each entry is known.
+pub fn solve_ways<'a, G: Links<'a>>(
+    alloc: Global,
+    ask: &Ask,
+    links: &mut G,
+) -> Result<BestWays, NoMemory>
+    ensures ways { IfOk result (AreBestWays (G.rows links.old) ask.now) }
+    ensures same { G.rows links.new ≡ G.rows links.old }
+{
+    let seeds = seeds_of(alloc, ask, links)?;
+    let stops = places_of(alloc, links, ask.entries.as_slice())?;
+    let found = search_to(alloc, links, &ask.query, &seeds, &stops)?;
+    let best = best_rows(alloc, ask, links, &seeds, &found)?;
+    Ok(BestWays {
+        best: List::from_vec(best),
+        source_known: is_node(links, ask.source),
+        target_known: knows_target(links, ask.target),
     })
 }
