@@ -11,6 +11,7 @@ mod kept;
 mod key;
 mod nexts;
 mod shown;
+mod told;
 
 pub use cache::Cache;
 pub use kept::{Kept, Next};
