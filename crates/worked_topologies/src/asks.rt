@@ -8,8 +8,8 @@ ghost use Rattle.std.specs.Arc.{arc_value};
 ghost use Rattle.cost_cache.specs.Entries.{IsGoodForAll};
 
 use crate::texts::{goes_to_a_thread, topology_of};
-use answers::{put_answer, put_number, put_table};
-use border_costs::{Job, Solved, seeds_of, solve};
+use answers::{put_answer, put_number, put_table, put_ways};
+use border_costs::{BestWays, Job, Solved, seeds_of, solve, solve_ways};
 use cost_cache::Cache;
 use dom_base::NoMemory;
 use line_text::{Lines, line_count};
@@ -57,6 +57,33 @@ fn is_said_anew(alloc: Global, job: &Job, text: &[u8]) -> Result<bool, NoMemory>
     Ok(anew.as_slice() == text)
 }
 
+// The best ways of a job by a cache.
+fn ways_by(cache: &mut Cache, job: &Job) -> Result<BestWays, NoMemory>
+    requires { IsGoodForAll (arc_value job.now.topology) cache.old }
+    ensures { IsGoodForAll (arc_value job.now.topology) cache.new }
+{
+    cache.ways(&job.ask, &mut Counted::new(&job.topology))
+}
+
+// Whether these are the ways of a solution, with what is known of its ends.
+fn are_ways_of(alloc: Global, ways: &BestWays, solved: &Solved) -> Result<bool, NoMemory> {
+    let mut own = Vec::new(alloc);
+    put_ways(ways.best.as_slice(), &mut own)?;
+    let mut other = Vec::new(alloc);
+    put_ways(solved.best(), &mut other)?;
+    Ok(
+        own.as_slice() == other.as_slice()
+            && ways.source_known == solved.source_known()
+            && ways.target_known == solved.target_known(),
+    )
+}
+
+// Whether a search that ends early finds the same ways for a job as a whole one.
+fn is_found_early(alloc: Global, job: &Job) -> Result<bool, NoMemory> {
+    let ways = solve_ways(alloc, &job.ask, &mut Counted::new(&job.topology))?;
+    are_ways_of(alloc, &ways, &solve(alloc, job)?)
+}
+
 // Puts how many links a search reads for a job, whether the cache read none, and the job's border table.
 fn put_reads(alloc: Global, job: &Job, reads: u64, text: &mut Vec<u8>) -> Result<(), NoMemory> {
     text.extend_from_slice(b"\nsearch")?;
@@ -77,6 +104,12 @@ fn said(alloc: Global, cache: &mut Cache, job: &Job) -> Result<Vec<u8>, Fail>
     let reads = put_solution(cache, job, &mut text)?;
     if !is_said_anew(alloc, job, text.as_slice())? {
         return Err("something else without the cache")?;
+    }
+    if !is_found_early(alloc, job)? {
+        return Err("other ways by a search that ends early")?;
+    }
+    if !are_ways_of(alloc, &ways_by(cache, job)?, &solve(alloc, job)?)? {
+        return Err("other ways without the labels")?;
     }
     put_reads(alloc, job, reads, &mut text)?;
     Ok(text)

@@ -56,12 +56,18 @@ fn put_label(label: &Option<Label>, text: &mut Vec<u8>) -> Result<(), NoMemory> 
     }
 }
 
+/// The best way from each entry.
+pub(crate) fn put_ways(best: &[Best], text: &mut Vec<u8>) -> Result<(), NoMemory> {
+    for row in best {
+        put_best(row, text)?;
+    }
+    Ok(())
+}
+
 /// The ends, the best way from each entry, and the label of each node.
 pub(crate) fn put_answer(solved: &Solved, text: &mut Vec<u8>) -> Result<(), NoMemory> {
     put_ends(solved, text)?;
-    for best in solved.best() {
-        put_best(best, text)?;
-    }
+    put_ways(solved.best(), text)?;
     text.extend_from_slice(b"\nlabels")?;
     for row in solved.certificate().labels.as_slice() {
         put_label(&row.1, text)?;
