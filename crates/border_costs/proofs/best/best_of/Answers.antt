@@ -1,8 +1,6 @@
 use Rattle.std.proofs.Common.{◌≡◌, ◌∷◌, List, Some, None, refl, sym, subst}
 use Rattle.std.proofs.lemmas.Option.{slice_get_within}
-use Rattle.std.specs.declared.option.Option.{Option}
 use Rattle.dom_base.specs.declared.link.Link.{Link}
-use Rattle.dom_base.specs.declared.query.Label.{Label}
 use Rattle.walk_laws.specs.Labels.{IsLabel}
 use Rattle.path_search.specs.Arcs.{label_at}
 use Rattle.path_search.specs.Segments.{HasSegment, AreAt}

@@ -1,5 +1,6 @@
-use Rattle.std.proofs.Common.{rules, arith, refl, sym, subst, ◌≡◌, ◌≤◌, ◌∙◌}
+use Rattle.std.proofs.Common.{rules, arith, refl, sym, subst, ◌≡◌, ◌∙◌}
 use Rattle.te_links.specs.Rows.{Rows}
+use Rattle.path_search.specs.Search.{AreLabels}
 use Rattle.border_costs.specs.Asks.{AreSeeds}
 use Rattle.border_costs.specs.Solutions.{TellEntries}
 use Rattle.border_costs.proofs.solution.solve_rows.Goals as goal
@@ -10,13 +11,13 @@ best_rows-requires g c κs =
     let ask = c.args.ask.now in
     let seeds = c.in_ok-seeds.seeds.items in
     let same = sym c.search.ensures.same in
-    let are = c.in_ok-labels.ensures.labels in
+    let are : AreLabels rows ask.query seeds c.in_ok-labels.labels = rw c.deref.ensures.value at c.in_ok-labels.ensures.labels in
     let told : TellEntries rows ask seeds (record { labels = c.in_ok-labels.labels; reach = ask.query.cap }) = record {
       within = omega arith;
       are_labels = are;
       entries = λ i n has at. are.each i n at;
     } in
-    rw c.deref.ensures.value (
+    rw c.deref-2.ensures.value (
       (refl, tt),
       (subst (λ (h : Rows). AreSeeds h ask seeds) same c.in_ok-seeds.ensures.seeds, subst (λ (h : Rows). TellEntries h ask seeds (record { labels = c.in_ok-labels.labels; reach = ask.query.cap })) same told),
     )

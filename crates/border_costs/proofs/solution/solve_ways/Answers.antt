@@ -1,9 +1,9 @@
-use Rattle.std.proofs.Common.{rules, ◌≡◌, ◌<◌, ◌∙◌, refl, sym, subst, length}
-use Rattle.std.specs.Prelude.{All}
+use Rattle.std.proofs.Common.{rules, ◌≡◌, ◌∙◌, refl, sym, subst}
 use Rattle.te_links.specs.Rows.{Rows}
+use Rattle.path_search.specs.Early.{AreLabelsTo}
 use Rattle.path_search.proofs.Cutting.{stops_labelled}
 use Rattle.border_costs.specs.Asks.{AreSeeds}
-use Rattle.border_costs.specs.Solutions.{TellEntries}
+use Rattle.border_costs.specs.Solutions.{ArePlaces, TellEntries}
 use Rattle.border_costs.proofs.solution.solve_ways.Goals as goal
 
 pub best_rows-requires : goal.best_rows-requires
@@ -14,12 +14,14 @@ best_rows-requires g c κs =
     let stops = c.in_ok-stops.stops.items in
     let found = c.in_ok-found.found in
     let same = sym c.search_to.ensures.same in
-    let are = c.in_ok-found.ensures.labels in
+    let placed : ArePlaces rows ask.entries stops = rw c.as_slice.ensures at c.in_ok-stops.ensures in
+    let are : AreLabelsTo rows ask.query seeds stops found.labels found.reach = rw (c.deref.ensures.value, c.deref-2.ensures.value) at c.in_ok-found.ensures.labels in
     let told : TellEntries rows ask seeds found = record {
       within = are.within;
       are_labels = are.are_labels;
-      entries = λ i n has at. stops_labelled rows ask.query seeds stops found.labels found.reach are i n (c.in_ok-stops.ensures.places.every i n has at) at;
-    } in (
+      entries = λ i n has at. stops_labelled rows ask.query seeds stops found.labels found.reach are i n (placed.every i n has at) at;
+    } in
+    rw c.deref-3.ensures.value (
       (refl, tt),
       (subst (λ (h : Rows). AreSeeds h ask seeds) same c.in_ok-seeds.ensures.seeds, subst (λ (h : Rows). TellEntries h ask seeds found) same told),
     )

@@ -1,4 +1,3 @@
-use Rattle.std.proofs.Common.{◌∙◌, refl}
 use Rattle.cost_cache.proofs.answer.answer.Goals as goal
 
 pub returns : goal.returns
