@@ -11,3 +11,4 @@ pub mod Members
 pub mod Composing
 mod TablePairs
 pub mod Placed
+mod OneAnswer

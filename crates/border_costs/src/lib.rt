@@ -17,7 +17,7 @@ mod ways;
 pub use answer::{Answer, BestWays};
 pub use best::head_of;
 pub use job::{Ask, Down, Job, Target};
-pub use law::{rows_compose, table_tells_pairs};
+pub use law::{one_answer, rows_compose, table_tells_pairs};
 pub use seeds::{seed_of_target, seeds_of};
 pub use solution::{is_node, knows_target, solve_rows, solve_ways};
 pub use solved::{Solved, solve};
