@@ -13,6 +13,7 @@ use Rattle.walk_laws.specs.Labels.{Reaches, IsLabel, IsTight, IsChosen, IsSegmen
 use Rattle.walk_laws.proofs.Tight.{label_unique}
 use Rattle.walk_laws.proofs.Segments.{one_segment}
 use Rattle.vspt_tree.specs.declared.branch.Best.{Best}
+use Rattle.border_costs.specs.declared.answer.Answer.{Answer}
 use Rattle.border_costs.specs.declared.job.Target.{Target}
 use Rattle.border_costs.specs.declared.job.Target.TheVariants.{Node, Next}
 use Rattle.border_costs.specs.declared.job.Down.{Down}
@@ -109,9 +110,15 @@ one_test false false one other = refl
 one_test true false one other = other.1 (one.0 refl)
 one_test false true one other = sym (one.1 (other.0 refl))
 
+abbrev answer : List Best → Bool → Bool → Answer
+answer best source_known target_known = record { best = best; source_known = source_known; target_known = target_known }
+
 pub one_answer : OneAnswer
-one_answer g ask rows ways order one other = (
-  one_best_rows g ask order one.seeds other.seeds (same_seeds g ask.query ask.down ask.target one.seeds other.seeds one.are_seeds.are other.are_seeds.are) ask.entries rows.best ways.best one.best other.best,
-  one_test rows.source_known ways.source_known one.source_known other.source_known,
-  one_test rows.target_known ways.target_known one.target_known other.target_known,
-)
+one_answer g ask rows others order one other =
+    let same = same_seeds g ask.query ask.down ask.target one.seeds other.seeds one.are_seeds.are other.are_seeds.are in
+    let best : others.best ≡ rows.best = one_best_rows g ask order one.seeds other.seeds same ask.entries rows.best others.best one.best other.best in
+    let source = one_test rows.source_known others.source_known one.source_known other.source_known in
+    let target = one_test rows.target_known others.target_known one.target_known other.target_known in
+    ap (λ (bs : List Best). answer bs others.source_known others.target_known) best
+    ∙ ap (λ (b : Bool). answer rows.best b others.target_known) source
+    ∙ ap (λ (b : Bool). answer rows.best rows.source_known b) target

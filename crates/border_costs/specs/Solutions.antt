@@ -25,7 +25,7 @@ use Rattle.border_costs.specs.declared.job.Target.TheVariants.{Node, Next}
 use Rattle.border_costs.specs.declared.job.Down.{Down}
 use Rattle.border_costs.specs.declared.job.Ask.{Ask}
 use Rattle.border_costs.specs.declared.answer.Answer.{Answer}
-use Rattle.border_costs.specs.declared.answer.BestWays.{BestWays}
+use Rattle.border_costs.specs.declared.answer.LabelledAnswer.{LabelledAnswer}
 use Rattle.border_costs.specs.Asks.{AreSeeds, IsPair, HasNoPair, beyond}
 
 -- the far address is that of an out link with this head
@@ -85,15 +85,11 @@ pub record AreRows (g : Rows) (ask : Ask) (rows : Answer) : Type 0 where
   pub best : AreBest g ask seeds ask.entries rows.best
   pub source_known : IsTrue rows.source_known ↔ Contains g.nodes ask.source
   pub target_known : IsTrue rows.target_known ↔ IsKnownTarget g ask.target
-  pub certificate : IsLabelled g ask seeds rows.certificate
 
--- the rows of an ask without the labels of all nodes
-pub record AreBestWays (g : Rows) (ask : Ask) (ways : BestWays) : Type 0 where
-  pub seeds : List Seed
-  pub are_seeds : AreSeeds g ask seeds
-  pub best : AreBest g ask seeds ask.entries ways.best
-  pub source_known : IsTrue ways.source_known ↔ Contains g.nodes ask.source
-  pub target_known : IsTrue ways.target_known ↔ IsKnownTarget g ask.target
+-- the rows, with the labels of all nodes from the same seeds
+pub record AreLabelledRows (g : Rows) (ask : Ask) (told : LabelledAnswer) : Type 0 where
+  pub are_rows : AreRows g ask told.rows
+  pub labels : IsLabelled g ask are_rows.seeds told.certificate
 
 -- the places of the addresses that are nodes
 pub record ArePlaces (g : Rows) (addresses : List Addr) (places : List ℕ) : Type 0 where

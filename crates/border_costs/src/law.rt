@@ -17,8 +17,8 @@ pub fn table_tells_pairs()
     ensures { TableTellsPairs }
 {}
 
-/// A law: an ask has one answer over a topology. So the ways that are told without the labels are
-/// those that are told with them.
+/// A law: an ask has one answer over a topology. So a search that ends early finds what one finds
+/// that gives each node its label.
 pub fn one_answer()
     ensures { OneAnswer }
 {}

@@ -14,11 +14,11 @@ mod solved;
 mod table;
 mod ways;
 
-pub use answer::{Answer, BestWays};
+pub use answer::{Answer, LabelledAnswer};
 pub use best::head_of;
 pub use job::{Ask, Down, Job, Target};
 pub use law::{one_answer, rows_compose, table_tells_pairs};
 pub use seeds::{seed_of_target, seeds_of};
-pub use solution::{is_node, knows_target, solve_rows, solve_ways};
-pub use solved::{Solved, solve};
+pub use solution::{is_node, knows_target, solve_labelled_rows, solve_rows};
+pub use solved::{Solved, solve, solve_labelled};
 pub use table::border_table;

@@ -3,6 +3,5 @@ pub mod Keys
 pub mod Entries
 pub mod SameKeys
 -- inner
-pub mod Answers
 pub mod Hops
 pub mod Shown

@@ -1,19 +1,16 @@
 //! The rows of an ask: what the cache keeps of it, and the answer from what is kept.
-ghost use Rattle.std.specs.Prelude.{◌≡◌, List, IfOk};
-ghost use Rattle.dom_base.specs.declared.query.Seed.{Seed};
+ghost use Rattle.std.specs.Prelude.{◌≡◌, IfOk};
 ghost use Rattle.te_links.specs.Rows.{IsTopology};
-ghost use Rattle.cost_cache.specs.Answers.{AreLabelsIf, IsTold};
-ghost use Rattle.cost_cache.specs.Entries.{AreKept, IsKept};
+ghost use Rattle.border_costs.specs.Solutions.{AreRows};
+ghost use Rattle.cost_cache.specs.Entries.{IsKept};
 ghost use Rattle.cost_cache.specs.Keys.{key_of};
 
 use crate::best::best_rows;
 use crate::kept::Kept;
 use crate::nexts::nexts_of;
-use crate::told::Told;
-use border_costs::{Ask, BestWays, is_node, knows_target, seeds_of};
+use border_costs::{Answer, Ask, is_node, knows_target, seeds_of};
 use dom_base::{List, NoMemory};
-use path_certificate::Certificate;
-use path_search::{label_rows, search};
+use path_search::search;
 use std::alloc::Global;
 use te_links::Links;
 
@@ -42,48 +39,21 @@ fn obeys_rules<'a, G: Links<'a>>(links: &G)
     let _nodes = links.node_count();
 }
 
-// The labels of all nodes, where they are asked for.
-fn labels_if<'a, G: Links<'a>>(
-    alloc: Global,
-    ask: &Ask,
-    links: &G,
-    kept: &Kept,
-    labelled: bool,
-) -> Result<Option<Certificate>, NoMemory>
-    requires { IsKept (G.rows links.now) (key_of ask.now) kept.now }
-    ensures { IfOk result (λ certificate. (seeds : List Seed) → AreKept (G.rows links.now) ask.now.query seeds kept.now → AreLabelsIf labelled (G.rows links.now) ask.now seeds certificate) }
-{
-    if labelled {
-        let rows = label_rows(alloc, links, &kept.labels)?;
-        return Ok(Some(Certificate {
-            own: ask.at,
-            labels: List::from_vec(rows),
-            path: None,
-        }));
-    }
-    Ok(None)
-}
-
-/// What is told of an ask, from what is kept under its key. No link is read.
+/// The rows of an ask, from what is kept under its key. No link is read.
 pub(crate) fn answer<'a, G: Links<'a>>(
     alloc: Global,
     ask: &Ask,
     links: &G,
     kept: &Kept,
-    labelled: bool,
-) -> Result<Told, NoMemory>
+) -> Result<Answer, NoMemory>
     requires { IsKept (G.rows links.now) (key_of ask.now) kept.now }
-    ensures { IfOk result (IsTold (G.rows links.now) ask.now labelled) }
+    ensures { IfOk result (AreRows (G.rows links.now) ask.now) }
 {
     obeys_rules(links);
     let best = best_rows(alloc, ask, links, kept)?;
-    let certificate = labels_if(alloc, ask, links, kept, labelled)?;
-    Ok(Told {
-        ways: BestWays {
-            best: List::from_vec(best),
-            source_known: is_node(links, ask.source),
-            target_known: knows_target(links, ask.target),
-        },
-        certificate,
+    Ok(Answer {
+        best: List::from_vec(best),
+        source_known: is_node(links, ask.source),
+        target_known: knows_target(links, ask.target),
     })
 }

@@ -1,16 +1,14 @@
 //! The cache.
 ghost use Rattle.std.specs.Prelude.{◌≡◌, ◌≤◌, [], IfOk, OnOk, OnErr};
-ghost use Rattle.border_costs.specs.Solutions.{AreRows, AreBestWays};
+ghost use Rattle.border_costs.specs.Solutions.{AreRows};
 ghost use Rattle.lru.specs.LruCache.{lru_cache};
 ghost use Rattle.cost_cache.specs.Keys.{key_of};
-ghost use Rattle.cost_cache.specs.Answers.{IsTold};
 ghost use Rattle.cost_cache.specs.Entries.{Has, IsGood, IsGoodEverywhere, KeepsOthers, IsAfter};
 
 use crate::answer::{answer, keep};
 use crate::kept::Kept;
 use crate::key::Key;
-use crate::told::Told;
-use border_costs::{Answer, Ask, BestWays};
+use border_costs::{Answer, Ask};
 use dom_base::NoMemory;
 use lru::LruCache;
 use std::alloc::Global;
@@ -60,35 +58,6 @@ impl Cache {
         })
     }
 
-    // What is told of an ask: from what is kept, or from what is kept from now on.
-    fn tell<'a, G: Links<'a>>(
-        &mut self,
-        ask: &Ask,
-        links: &mut G,
-        labelled: bool,
-    ) -> Result<Told, NoMemory>
-        requires good { IsGood ask.now.at ask.now.generation (G.rows links.old) self.old }
-        ensures told { IfOk result (IsTold (G.rows links.old) ask.now labelled) }
-        ensures same { G.rows links.new ≡ G.rows links.old }
-        ensures hit { Has self.old (key_of ask.now) → G.reads links.new ≡ G.reads links.old }
-        ensures has { OnOk result (Has self.new (key_of ask.now)) }
-        ensures others { OnOk result (IsAfter self.old (key_of ask.now) self.new) }
-        ensures before { OnErr result (self.new ≡ self.old) }
-        ensures good { IsGood ask.now.at ask.now.generation (G.rows links.old) self.new }
-        ensures elsewhere { KeepsOthers (key_of ask.now) self.old self.new }
-    {
-        let key = Key::of(self.alloc, ask)?;
-        if let Some(kept) = self.entries.peek(&key) {
-            let told = answer(self.alloc, ask, links, kept, labelled)?;
-            self.entries.promote(&key);
-            return Ok(told);
-        }
-        let kept = keep(self.alloc, ask, links)?;
-        let told = answer(self.alloc, ask, links, &kept, labelled)?;
-        self.entries.put(key, kept)?;
-        Ok(told)
-    }
-
     /// The rows of an ask over the topology of `links`, as `solve_rows` gives them. Where the cache
     /// has the key of the ask it reads no link; the entries and the source may be others than those
     /// of the ask under which the key was solved.
@@ -103,23 +72,15 @@ impl Cache {
         ensures good { IsGood ask.now.at ask.now.generation (G.rows links.old) self.new }
         ensures elsewhere { KeepsOthers (key_of ask.now) self.old self.new }
     {
-        let told = self.tell(ask, links, true)?;
-        Ok(told.with_labels())
-    }
-
-    /// The rows of an ask as `solve` gives them, without the labels of all nodes.
-    pub fn ways<'a, G: Links<'a>>(&mut self, ask: &Ask, links: &mut G) -> Result<BestWays, NoMemory>
-        requires good { IsGood ask.now.at ask.now.generation (G.rows links.old) self.old }
-        ensures ways { IfOk result (AreBestWays (G.rows links.old) ask.now) }
-        ensures same { G.rows links.new ≡ G.rows links.old }
-        ensures hit { Has self.old (key_of ask.now) → G.reads links.new ≡ G.reads links.old }
-        ensures has { OnOk result (Has self.new (key_of ask.now)) }
-        ensures others { OnOk result (IsAfter self.old (key_of ask.now) self.new) }
-        ensures before { OnErr result (self.new ≡ self.old) }
-        ensures good { IsGood ask.now.at ask.now.generation (G.rows links.old) self.new }
-        ensures elsewhere { KeepsOthers (key_of ask.now) self.old self.new }
-    {
-        let told = self.tell(ask, links, false)?;
-        Ok(told.ways)
+        let key = Key::of(self.alloc, ask)?;
+        if let Some(kept) = self.entries.peek(&key) {
+            let rows = answer(self.alloc, ask, links, kept)?;
+            self.entries.promote(&key);
+            return Ok(rows);
+        }
+        let kept = keep(self.alloc, ask, links)?;
+        let rows = answer(self.alloc, ask, links, &kept)?;
+        self.entries.put(key, kept)?;
+        Ok(rows)
     }
 }

@@ -11,7 +11,6 @@ mod kept;
 mod key;
 mod nexts;
 mod shown;
-mod told;
 
 pub use cache::Cache;
 pub use kept::{Kept, Next};

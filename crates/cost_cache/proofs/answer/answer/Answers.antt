@@ -9,5 +9,4 @@ returns g c =
       best = rw c.from_vec.ensures (c.in_ok-best.ensures kept.seeds (record { are = kept.are_seeds; few = kept.few }) kept.are_kept);
       source_known = c.is_node.ensures;
       target_known = c.knows_target.ensures;
-      certificate = c.in_ok-certificate.ensures kept.seeds kept.are_kept;
     }

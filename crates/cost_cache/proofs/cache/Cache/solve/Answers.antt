@@ -1,7 +1,7 @@
 use Rattle.std.proofs.Common.{refl}
 use Rattle.cost_cache.specs.Keys.{key_of}
 use Rattle.cost_cache.proofs.Keeping.{found_in, not_found_in, put_in, used_in, has_after, good_after, others_after}
-use Rattle.cost_cache.proofs.cache.Cache.tell.Goals as goal
+use Rattle.cost_cache.proofs.cache.Cache.solve.Goals as goal
 
 pub answer-requires : goal.answer-requires
 answer-requires g c κs =
@@ -38,8 +38,8 @@ pub returns-in_err-kept-clause-hit : goal.returns-in_err-kept-clause-hit
 returns-in_err-kept-clause-hit g c = λ has.
     absurd (not_found_in c.self.inside.entries c.args.self.now c.in_ok-key.key (key_of c.args.ask.now) c.self.view_is c.in_ok-key.ensures c.in_default.ensures has)
 
-pub returns-in_err-told-2-clause-hit : goal.returns-in_err-told-2-clause-hit
-returns-in_err-told-2-clause-hit g c = λ has.
+pub returns-in_err-rows-2-clause-hit : goal.returns-in_err-rows-2-clause-hit
+returns-in_err-rows-2-clause-hit g c = λ has.
     absurd (not_found_in c.self.inside.entries c.args.self.now c.in_ok-key.key (key_of c.args.ask.now) c.self.view_is c.in_ok-key.ensures c.in_default.ensures has)
 
 pub returns-in_err-put-clause-hit : goal.returns-in_err-put-clause-hit
