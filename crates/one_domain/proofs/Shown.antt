@@ -1,5 +1,5 @@
 -- What the rows of an ask with one entry and one target show of the domain.
-use Rattle.std.proofs.Common.{◌≡◌, ◌↔◌, ℕ, Bool, true, false, [], ◌∷◌, ◌++◌, ◌+◌, List, Some, None, inl, inr, sym, ◌∙◌, ap, subst, refl, arith, length, length-append, cond}
+use Rattle.std.proofs.Common.{◌≡◌, ℕ, [], ◌∷◌, ◌++◌, List, Some, None, inl, inr, sym, ◌∙◌, ap, subst, arith, length, length-append}
 use Rattle.std.specs.Prelude.{MatchOption, option_map, Result, Ok, Err, IfOk}
 use Rattle.dom_base.specs.declared.names.NoMemory.{NoMemory}
 use Rattle.pcep_messages.specs.declared.message.Answer.{Answer as Reply}

@@ -29,10 +29,12 @@ returns-clause-rows g c =
     let seeds = c.in_ok-seeds.seeds.items in
     let same : g.G.Links.rows c.best_rows.new.links ≡ rows = c.best_rows.ensures.same ∙ c.search.ensures.same in
     record {
-      seeds = seeds;
-      are_seeds = c.in_ok-seeds.ensures.seeds;
-      best = search rules;
-      source_known = search rules;
-      target_known = search rules;
-      certificate = search rules;
+      are_rows = record {
+        seeds = seeds;
+        are_seeds = c.in_ok-seeds.ensures.seeds;
+        best = search rules;
+        source_known = search rules;
+        target_known = search rules;
+      };
+      labels = search rules;
     }
