@@ -1,14 +1,13 @@
 #!/bin/sh
-# What an answer of one entry costs at the limits, 1,024 nodes and 8,192 inner links, on the four topologies of search.sh: by a search
-# that ends as soon as the entry has its label, and by one that gives every node its label, beside that search alone; and by the
-# cache, anew and by what it keeps, with the labels of all nodes and without. Sixteen sources are drawn; the mean of each, in
-# microseconds, is the least of 200 rounds.
+# What the rows of one entry cost at the limits, 1,024 nodes and 8,192 inner links, on the four topologies of search.sh: by a search
+# that ends as soon as the entry has its label; with the labels of all nodes, beside the search of these alone; and by the cache, anew
+# and by what it keeps. The mean over sixteen sources, each the least of 200 rounds, in microseconds.
 # It makes a program in a copy of the repository, proves and builds it there, and runs it. The figures hold for the
 # machine and the moment alone: no clause speaks of time.
-# usage: bench/ways.sh
+# usage: bench/rows.sh
 set -eu
 if [ $# -ne 0 ]; then
-    echo 'usage: bench/ways.sh' >&2
+    echo 'usage: bench/rows.sh' >&2
     exit 2
 fi
 top=$(cd "$(dirname "$0")/.." && pwd)
@@ -20,9 +19,9 @@ for name in dom_base line_text te_links te_text path_constraints pcep_codes pcep
     cp -r "$top/crates/$name" "$copy/crates/"
     grep "^$name[ :]" "$top/crates.txt" >>"$copy/crates.txt"
 done
-sed -n 's/^cost_cache: /ways_bench: cost_cache /p' "$top/crates.txt" >>"$copy/crates.txt"
-crate=$copy/crates/ways_bench
-mkdir -p "$crate/src" "$crate/proofs/asking/labelled" "$crate/proofs/asking/ways"
+sed -n 's/^cost_cache: /rows_bench: cost_cache /p' "$top/crates.txt" >>"$copy/crates.txt"
+crate=$copy/crates/rows_bench
+mkdir -p "$crate/src" "$crate/proofs/asking/answer"
 
 cat >"$crate/src/network.rt" <<'RT'
 //! Four topologies at the limits.
@@ -150,33 +149,25 @@ use border_costs::Ask;
 use cost_cache::Cache;
 use te_links::{Counted, Topology};
 
-/// With the labels of all nodes.
-pub fn labelled(cache: &mut Cache, ask: &Ask, topology: &Topology) -> bool
+/// Whether there was memory for the answer.
+pub fn answer(cache: &mut Cache, ask: &Ask, topology: &Topology) -> bool
     requires { IsGoodForAll topology.now cache.old }
     ensures { IsGoodForAll topology.now cache.new }
 {
     cache.solve(ask, &mut Counted::new(topology)).is_ok()
 }
-
-/// Without them.
-pub fn ways(cache: &mut Cache, ask: &Ask, topology: &Topology) -> bool
-    requires { IsGoodForAll topology.now cache.old }
-    ensures { IsGoodForAll topology.now cache.new }
-{
-    cache.ways(ask, &mut Counted::new(topology)).is_ok()
-}
 RT
 
 cat >"$crate/src/main.rt" <<'RT'
-//! Times answers with the labels of all nodes and without.
+//! Times rows with the labels of all nodes and without.
 #![tactic(auto)]
 
 mod asking;
 mod network;
 
-use crate::asking::{labelled, ways};
+use crate::asking::answer;
 use crate::network::{Shape, topology};
-use border_costs::{Ask, Target, seeds_of, solve_rows, solve_ways};
+use border_costs::{Ask, Target, seeds_of, solve_labelled_rows, solve_rows};
 use cost_cache::Cache;
 use dom_base::{Addr, As, Cost, List, Metric, NoMemory, Query};
 use path_search::search;
@@ -194,11 +185,9 @@ const SOURCES: u32 = 16;
 enum Call {
     Search,
     Rows,
-    Ways,
-    AnewLabelled,
-    AnewWays,
-    HitLabelled,
-    HitWays,
+    Labelled,
+    Anew,
+    Hit,
 }
 
 // An ask from a node to the one in the middle.
@@ -242,16 +231,15 @@ fn time(rt: &HostRuntime, call: Call, ask: &Ask, topology: &Topology) -> io::Res
         return Ok(None);
     };
     let is_kept = match call {
-        Call::HitLabelled | Call::HitWays => ways(&mut cache, ask, topology),
+        Call::Hit => answer(&mut cache, ask, topology),
         _other => true,
     };
     let start = Instant::now(rt)?;
     let done = match call {
         Call::Search => search_alone(alloc, ask, topology),
         Call::Rows => solve_rows(alloc, ask, &mut Counted::new(topology)).is_ok(),
-        Call::Ways => solve_ways(alloc, ask, &mut Counted::new(topology)).is_ok(),
-        Call::AnewLabelled | Call::HitLabelled => labelled(&mut cache, ask, topology),
-        Call::AnewWays | Call::HitWays => ways(&mut cache, ask, topology),
+        Call::Labelled => solve_labelled_rows(alloc, ask, &mut Counted::new(topology)).is_ok(),
+        Call::Anew | Call::Hit => answer(&mut cache, ask, topology),
     };
     let took = start.elapsed(rt)?.as_nanos();
     Ok(if is_kept && done { Some(took) } else { None })
@@ -291,15 +279,13 @@ fn measure(rt: &HostRuntime, name: &str, shape: Shape) -> io::Result<()> {
     let Ok(Some(topology)) = topology(rt.alloc(), shape) else {
         return println!(rt; "no topology");
     };
-    let all = mean(rt, Call::Search, &topology)?;
     let rows = mean(rt, Call::Rows, &topology)?;
-    let early = mean(rt, Call::Ways, &topology)?;
-    println!(rt; "{name}: search {}.{}, rows with labels {}.{}, ways {}.{} us", all / 10, all % 10, rows / 10, rows % 10, early / 10, early % 10)?;
-    let anew = mean(rt, Call::AnewLabelled, &topology)?;
-    let kept = mean(rt, Call::AnewWays, &topology)?;
-    let hit = mean(rt, Call::HitLabelled, &topology)?;
-    let short = mean(rt, Call::HitWays, &topology)?;
-    println!(rt; "{name}: by the cache anew, with labels {}.{}, without {}.{} us; a hit {}.{}, {}.{} us", anew / 10, anew % 10, kept / 10, kept % 10, hit / 10, hit % 10, short / 10, short % 10)
+    let labelled = mean(rt, Call::Labelled, &topology)?;
+    let all = mean(rt, Call::Search, &topology)?;
+    println!(rt; "{name}: rows {}.{} us; with all labels {}.{}, one search {}.{}", rows / 10, rows % 10, labelled / 10, labelled % 10, all / 10, all % 10)?;
+    let anew = mean(rt, Call::Anew, &topology)?;
+    let hit = mean(rt, Call::Hit, &topology)?;
+    println!(rt; "{name}: by the cache anew {}.{} us, a hit {}.{}", anew / 10, anew % 10, hit / 10, hit % 10)
 }
 
 fn main(rt: HostRuntime) -> io::Result<()> {
@@ -310,26 +296,21 @@ fn main(rt: HostRuntime) -> io::Result<()> {
 }
 RT
 
-answers() {
-    cat <<ANTT
+cat >"$crate/proofs/asking/answer/Answers.antt" <<'ANTT'
 use Rattle.std.proofs.Common.{subst}
 use Rattle.te_links.specs.Rows.{Rows}
 use Rattle.cost_cache.specs.Keys.{key_of}
 use Rattle.cost_cache.specs.Entries.{IsGood}
 use Rattle.cost_cache.proofs.Keeping.{still_good}
-use Rattle.ways_bench.proofs.asking.$1.Goals as goal
+use Rattle.rows_bench.proofs.asking.answer.Goals as goal
 
 pub returns : goal.returns
 returns c =
     let key = key_of c.args.ask.now in
-    let here : IsGood key.at key.generation c.args.topology.now c.$2.new.self =
-    subst (λ (h : Rows). IsGood key.at key.generation h c.$2.new.self) c.new.ensures.topology c.$2.ensures.good in
-    still_good c.args.topology.now key c.args.cache.now c.$2.new.self c.requires here c.$2.ensures.elsewhere
+    let here : IsGood key.at key.generation c.args.topology.now c.solve.new.self =
+    subst (λ (h : Rows). IsGood key.at key.generation h c.solve.new.self) c.new.ensures.topology c.solve.ensures.good in
+    still_good c.args.topology.now key c.args.cache.now c.solve.new.self c.requires here c.solve.ensures.elsewhere
 ANTT
-}
-
-answers labelled solve >"$crate/proofs/asking/labelled/Answers.antt"
-answers ways ways >"$crate/proofs/asking/ways/Answers.antt"
 
 cd "$crate"
 rt run 2>"$copy/log" || {
