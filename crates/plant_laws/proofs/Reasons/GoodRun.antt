@@ -1,6 +1,6 @@
 -- A run in which a good request is served: two domains whose topologies are empty, and a client of the first that asks for a path
 -- through both. There is none.
-use Rattle.std.proofs.Common.{◌≡◌, ◌<◌, ℕ, Bool, true, false, cond, nat_lt, nat_eq, List, [], ◌∷◌, Some, None, subst, inl, inr, refl, arith, ltb-true}
+use Rattle.std.proofs.Common.{◌≡◌, ◌<◌, ℕ, Bool, true, false, cond, nat_lt, nat_eq, List, [], ◌∷◌, Some, subst, inl, inr, refl, arith, ltb-true}
 use Rattle.std.specs.Prelude.{All, Contains}
 use Rattle.std.specs.Map.{lookup}
 use Rattle.std.proofs.lemmas.List.Elements.{All-nil, All-cons}
