@@ -41,6 +41,11 @@ returns-in_err-start-clause-err g c =
     let from = c.from_residual.ensures in
     search (rules, end, from)
 
+pub returns-in_err-start-clause-ok : goal.returns-in_err-start-clause-ok
+returns-in_err-start-clause-ok g c =
+    let p = err_from_is_err_and c.from_residual.result c.from_residual.ensures.1 in
+    rw p.1 tt
+
 pub returns-in_err-start-clause-behind : goal.returns-in_err-start-clause-behind
 returns-in_err-start-clause-behind g c =
     let p = err_from_is_err_and c.from_residual.result c.from_residual.ensures.1 in
