@@ -147,6 +147,19 @@ impl Counts {
         })
     }
 
+    /// A copy of the counts as they are.
+    pub fn copy(&self, alloc: Global) -> Result<Counts, NoMemory>
+        ensures { IfOk result (λ copy. copy ≡ self.now) }
+    {
+        let peers = Vec::from_slice(alloc, &self.peers)?;
+        let links = Vec::from_slice(alloc, &self.links)?;
+        Ok(Counts {
+            clock: self.clock,
+            peers,
+            links,
+        })
+    }
+
     /// What was counted of the outside peers, in the order of their numbers.
     pub fn peers(&self) -> &[PeerCounts]
         ensures { result.now ≡ self.now.peers }

@@ -10,6 +10,6 @@ mod steps;
 
 pub use counts::Counts;
 pub use figures::{AnswerCounts, LinkCounts, OctetCounts, PeerCounts, TakenCounts};
-pub use laws::refused_turns_count_nothing;
+pub use laws::{answers_say, refused_turns_count_nothing};
 pub use messages::type_of;
 pub use noted::Noted;

@@ -28,5 +28,8 @@ record_line k (Some r) = decimal k ++ codes " record " ++ r.run ++ figure (codes
 abbrev pub rows_text : ℕ → NetworkParts → Survey → Counted → List ℕ
 rows_text k n s c = peers_text (peer.Line k) n.peers s.peers c.peers ++ elements_text (element.Line k) n.elements s.elements ++ links_text k s.links c.links
 
+abbrev pub ok_line : ℕ → List ℕ
+ok_line k = decimal k ++ codes " ok" ++ 10 ∷ []
+
 abbrev pub show_text : ℕ → NetworkParts → Survey → Counted → Option Recorded → List ℕ
-show_text k n s c r = clock_line k s.clock.0 ++ rows_text k n s c ++ parent_line k s.parent ++ record_line k r ++ decimal k ++ codes " ok" ++ 10 ∷ []
+show_text k n s c r = clock_line k s.clock.0 ++ rows_text k n s c ++ parent_line k s.parent ++ record_line k r ++ ok_line k

@@ -21,11 +21,7 @@ fn push_head(
     push_words(b" ", stage_word(link.stage), into)
 }
 
-fn push_figures(
-    link: &LinkSurvey,
-    counts: &LinkCounts,
-    into: &mut Vec<u8>,
-) -> Result<(), NoMemory>
+fn push_figures(link: &LinkSurvey, counts: &LinkCounts, into: &mut Vec<u8>) -> Result<(), NoMemory>
     ensures { OnOk result (into.new.items ≡ into.old.items ++ link_figures link.now counts.now) }
 {
     push_figure(b" since ", link.since.0, into)?;

@@ -42,7 +42,13 @@ fn push_of_peers(
     ensures { OnOk result (into.new.items ≡ into.old.items ++ peers_metric help.now kind.now text parts.now survey.now counts.now) }
 {
     push_head(help, kind, into)?;
-    push_peers(text, parts.peers.as_slice(), survey.peers.as_slice(), counts.peers(), into)
+    push_peers(
+        text,
+        parts.peers.as_slice(),
+        survey.peers.as_slice(),
+        counts.peers(),
+        into,
+    )
 }
 
 // A count of each element.
@@ -57,7 +63,12 @@ fn push_of_elements(
     ensures { OnOk result (into.new.items ≡ into.old.items ++ elements_metric help.now kind.now text parts.now survey.now) }
 {
     push_head(help, kind, into)?;
-    push_elements(text, parts.elements.as_slice(), survey.elements.as_slice(), into)
+    push_elements(
+        text,
+        parts.elements.as_slice(),
+        survey.elements.as_slice(),
+        into,
+    )
 }
 
 fn push_sessions(
@@ -71,8 +82,7 @@ fn push_sessions(
     let state = b"pce_session_state 0 closed, 1 opening, 2 up, 3 over.";
     let kind = b"pce_session_state gauge";
     push_of_peers(state, kind, PeerText::State, parts, survey, counts, into)?;
-    let since =
-        b"pce_session_since_seconds When that state began, in seconds since the start.";
+    let since = b"pce_session_since_seconds When that state began, in seconds since the start.";
     let kind = b"pce_session_since_seconds gauge";
     push_of_peers(since, kind, PeerText::Since, parts, survey, counts, into)
 }
@@ -87,7 +97,15 @@ fn push_connections(
 {
     let connections = b"pce_connections_total Connections that were opened.";
     let kind = b"pce_connections_total counter";
-    push_of_peers(connections, kind, PeerText::Connections, parts, survey, counts, into)?;
+    push_of_peers(
+        connections,
+        kind,
+        PeerText::Connections,
+        parts,
+        survey,
+        counts,
+        into,
+    )?;
     let octets = b"pce_octets_total Octets that came, and octets that were handed out.";
     let kind = b"pce_octets_total counter";
     push_of_peers(octets, kind, PeerText::Octets, parts, survey, counts, into)
@@ -106,35 +124,56 @@ fn push_messages(
     push_of_peers(taken, kind, PeerText::Taken, parts, survey, counts, into)?;
     let answers = b"pce_answers_total Messages that answer, by what they say.";
     let kind = b"pce_answers_total counter";
-    push_of_peers(answers, kind, PeerText::Answers, parts, survey, counts, into)
+    push_of_peers(
+        answers,
+        kind,
+        PeerText::Answers,
+        parts,
+        survey,
+        counts,
+        into,
+    )
 }
 
-fn push_load(
-    parts: &NetworkParts,
-    survey: &Survey,
-    into: &mut Vec<u8>,
-) -> Result<(), NoMemory>
+fn push_load(parts: &NetworkParts, survey: &Survey, into: &mut Vec<u8>) -> Result<(), NoMemory>
     ensures { OnOk result (into.new.items ≡ into.old.items ++ load_text parts.now survey.now) }
 {
     let pending = b"pce_pending Requests that wait.";
-    push_of_elements(pending, b"pce_pending gauge", ElementText::Pending, parts, survey, into)?;
+    push_of_elements(
+        pending,
+        b"pce_pending gauge",
+        ElementText::Pending,
+        parts,
+        survey,
+        into,
+    )?;
     let generation = b"pce_generation The number of the current topology.";
     let kind = b"pce_generation gauge";
-    push_of_elements(generation, kind, ElementText::Generation, parts, survey, into)
+    push_of_elements(
+        generation,
+        kind,
+        ElementText::Generation,
+        parts,
+        survey,
+        into,
+    )
 }
 
-fn push_room(
-    parts: &NetworkParts,
-    survey: &Survey,
-    into: &mut Vec<u8>,
-) -> Result<(), NoMemory>
+fn push_room(parts: &NetworkParts, survey: &Survey, into: &mut Vec<u8>) -> Result<(), NoMemory>
     ensures { OnOk result (into.new.items ≡ into.old.items ++ room_text parts.now survey.now) }
 {
     let live = b"pce_generations_live Topologies that are current or asked of, of 16.";
     let kind = b"pce_generations_live gauge";
     push_of_elements(live, kind, ElementText::Live, parts, survey, into)?;
     let keys = b"pce_keys_live Live path keys, of 8192.";
-    push_of_elements(keys, b"pce_keys_live gauge", ElementText::Keys, parts, survey, into)
+    push_of_elements(
+        keys,
+        b"pce_keys_live gauge",
+        ElementText::Keys,
+        parts,
+        survey,
+        into,
+    )
 }
 
 fn push_record(recorded: &Option<Recorded>, into: &mut Vec<u8>) -> Result<(), NoMemory>

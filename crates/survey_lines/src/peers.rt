@@ -3,7 +3,9 @@ ghost use Rattle.std.specs.Prelude.{◌≡◌, ◌++◌, ◌∷◌, OnOk};
 ghost use Rattle.survey_lines.specs.PeerTexts.{answer_samples, message_figures, octet_samples, peer_head, peer_label, peer_line, peer_text, peers_text, place_labels, session_figures, since_of, waiting_figures};
 ghost use Rattle.survey_lines.specs.Words.{sample};
 
-use crate::words::{class_word, push_figure, push_sample_end, push_words, stage_number, stage_word};
+use crate::words::{
+    class_word, push_figure, push_sample_end, push_words, stage_number, stage_word,
+};
 use dom_base::NoMemory;
 use plant_counts::{AnswerCounts, OctetCounts, PeerCounts};
 use plant_survey::{PeerSurvey, Stage};
@@ -32,12 +34,7 @@ fn since(peer: &PeerSurvey, counts: &PeerCounts) -> u64
     }
 }
 
-fn push_head(
-    number: u64,
-    row: &PeerRow,
-    stage: Stage,
-    into: &mut Vec<u8>,
-) -> Result<(), NoMemory>
+fn push_head(number: u64, row: &PeerRow, stage: Stage, into: &mut Vec<u8>) -> Result<(), NoMemory>
     ensures { OnOk result (into.new.items ≡ into.old.items ++ peer_head number row.now stage) }
 {
     push_figure(b"", number, into)?;
@@ -47,11 +44,7 @@ fn push_head(
     push_words(b" ", stage_word(stage), into)
 }
 
-fn push_session(
-    peer: &PeerSurvey,
-    counts: &PeerCounts,
-    into: &mut Vec<u8>,
-) -> Result<(), NoMemory>
+fn push_session(peer: &PeerSurvey, counts: &PeerCounts, into: &mut Vec<u8>) -> Result<(), NoMemory>
     ensures { OnOk result (into.new.items ≡ into.old.items ++ session_figures peer.now counts.now) }
 {
     push_figure(b" since ", since(peer, counts), into)?;
@@ -104,6 +97,17 @@ fn push_name(name: &[u8], row: &PeerRow, into: &mut Vec<u8>) -> Result<(), NoMem
     push_words(row.name.as_str().as_bytes(), b"\"", into)
 }
 
+// The name of a count, and the labels of a peer at its place.
+fn push_place(name: &[u8], row: &PeerRow, into: &mut Vec<u8>) -> Result<(), NoMemory>
+    ensures { OnOk result (into.new.items ≡ into.old.items ++ name.now ++ 123 ∷ place_labels row.now) }
+{
+    push_name(name, row, into)?;
+    push_figure(b",element=\"", u64::from(row.at.0), into)?;
+    push_words(b"\",class=\"", class_word(row.class), into)?;
+    into.push(b'"')?;
+    Ok(())
+}
+
 fn push_place_sample(
     name: &[u8],
     row: &PeerRow,
@@ -112,10 +116,7 @@ fn push_place_sample(
 ) -> Result<(), NoMemory>
     ensures { OnOk result (into.new.items ≡ into.old.items ++ sample name.now (place_labels row.now) number) }
 {
-    push_name(name, row, into)?;
-    push_figure(b",element=\"", u64::from(row.at.0), into)?;
-    push_words(b"\",class=\"", class_word(row.class), into)?;
-    into.push(b'"')?;
+    push_place(name, row, into)?;
     push_sample_end(number, into)
 }
 

@@ -1,6 +1,6 @@
 //! The rows of `show`.
-ghost use Rattle.std.specs.Prelude.{◌≡◌, ◌++◌, ◌∷◌, [], codes, decimal, OnOk};
-ghost use Rattle.survey_lines.specs.Shows.{clock_line, parent_line, record_line, rows_text, show_text};
+ghost use Rattle.std.specs.Prelude.{◌≡◌, ◌++◌, OnOk};
+ghost use Rattle.survey_lines.specs.Shows.{clock_line, ok_line, parent_line, record_line, rows_text, show_text};
 
 use crate::elements::{ElementText, push_elements};
 use crate::links::push_links;
@@ -38,11 +38,7 @@ fn push_parent(
     Ok(())
 }
 
-fn push_record(
-    number: u64,
-    recorded: &Option<Recorded>,
-    into: &mut Vec<u8>,
-) -> Result<(), NoMemory>
+fn push_record(number: u64, recorded: &Option<Recorded>, into: &mut Vec<u8>) -> Result<(), NoMemory>
     ensures { OnOk result (into.new.items ≡ into.old.items ++ record_line number recorded.now) }
 {
     let Some(recorded) = recorded else {
@@ -67,14 +63,25 @@ fn push_rows(
     ensures { OnOk result (into.new.items ≡ into.old.items ++ rows_text number parts.now survey.now counts.now) }
 {
     let peers = PeerText::Line(number);
-    push_peers(peers, parts.peers.as_slice(), survey.peers.as_slice(), counts.peers(), into)?;
+    push_peers(
+        peers,
+        parts.peers.as_slice(),
+        survey.peers.as_slice(),
+        counts.peers(),
+        into,
+    )?;
     let elements = ElementText::Line(number);
-    push_elements(elements, parts.elements.as_slice(), survey.elements.as_slice(), into)?;
+    push_elements(
+        elements,
+        parts.elements.as_slice(),
+        survey.elements.as_slice(),
+        into,
+    )?;
     push_links(number, survey.links.as_slice(), counts.links(), into)
 }
 
 fn push_ok(number: u64, into: &mut Vec<u8>) -> Result<(), NoMemory>
-    ensures { OnOk result (into.new.items ≡ into.old.items ++ decimal number ++ codes " ok" ++ 10 ∷ []) }
+    ensures { OnOk result (into.new.items ≡ into.old.items ++ ok_line number) }
 {
     push_figure(b"", number, into)?;
     into.extend_from_slice(b" ok\n")?;

@@ -65,11 +65,7 @@ pub(crate) fn push_sample_end(number: u64, into: &mut Vec<u8>) -> Result<(), NoM
 }
 
 /// A count without labels.
-pub(crate) fn push_bare_sample(
-    name: &[u8],
-    number: u64,
-    into: &mut Vec<u8>,
-) -> Result<(), NoMemory>
+pub(crate) fn push_bare_sample(name: &[u8], number: u64, into: &mut Vec<u8>) -> Result<(), NoMemory>
     ensures { OnOk result (into.new.items ≡ into.old.items ++ bare_sample name.now number) }
 {
     into.extend_from_slice(name)?;
