@@ -84,7 +84,8 @@ impl<W: World> Network<W> {
 
     /// Its clock, connections, links and queues, to be read.
     pub fn traffic(&self) -> &Traffic
-        ensures { result.now ≡ self.now.carried }
+        ensures traffic { result.now ≡ self.now.carried }
+        ensures along { (flow_of result.now).adjacencies ≡ adjacencies (whole W.first self.now).network }
     {
         &self.traffic
     }

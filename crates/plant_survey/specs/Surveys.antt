@@ -6,8 +6,8 @@ use Rattle.plant_text.specs.Settings.{Adjacency, adjacencies, is_element}
 use Rattle.plant_network.specs.Whole.{Whole}
 use Rattle.plant_network.specs.network_links.Flow.{inbox_of}
 use Rattle.plant_network.specs.plant_model.Types.{As, ElementRow, Outside, PeerRow}
-use Rattle.plant_network.specs.plant_model.Element.{ready_numbers}
-use Rattle.plant_network.specs.plant_model.Plant.{Pin, live_numbers}
+use Rattle.plant_network.specs.plant_model.Element.{Element, ready_numbers}
+use Rattle.plant_network.specs.plant_model.Plant.{Pin, Segment, live_numbers}
 use Rattle.plant_network.specs.plant_model.State.{Connection}
 use Rattle.plant_survey.specs.Phases.{stage_at, stage_of_link}
 use Rattle.plant_survey.specs.declared.figures.ElementSurvey.{ElementSurvey}
@@ -49,19 +49,25 @@ peers_from w i (row ∷ rows) = peer_of w i row ∷ peers_from w (suc i) rows
 abbrev pub topology_of : Pin → TopologySurvey
 topology_of p = record { generation = p.number; nodes = length p.topology.nodes; links = length p.topology.links }
 
-abbrev pub element_of : Whole → ElementRow → ElementSurvey
-element_of w row =
-    let element = w.state.elements row.own in
-    let keys = length (live_at element.keys w.state.clock) in
+abbrev pub figures_of : Pin → Element Pin Segment → ℕ → ElementSurvey
+figures_of current element now =
+    let keys = length (live_at element.keys now) in
     record {
-      topology = topology_of (w.state.current row.own);
-      live = length (live_numbers (w.state.current row.own).number element.pending.rows);
+      topology = topology_of current;
+      live = length (live_numbers current.number element.pending.rows);
       requests = element.pending.given;
       pending = length element.pending.rows;
       ready = length (ready_numbers element.pending.rows);
       keys = keys;
       free = live_most - keys;
     }
+
+abbrev pub element_of : Whole → ElementRow → ElementSurvey
+element_of w row = figures_of (w.state.current row.own) (w.state.elements row.own) w.state.clock
+
+-- those of an element of which nothing is known
+abbrev pub no_figures : ElementSurvey
+no_figures = record { topology = record { generation = 0; nodes = 0; links = 0 }; live = 1; requests = 0; pending = 0; ready = 0; keys = 0; free = live_most }
 
 -- none where there is no such element
 abbrev pub IsTopologySurvey : Whole → As → Option TopologySurvey → Type 0
@@ -84,6 +90,10 @@ link_of w l =
 abbrev pub parent_of : Whole → ParentSurvey
 parent_of w = record { requests = w.state.parent.pending.given; pending = length w.state.parent.pending.rows }
 
+-- none where the settings have no parent
+abbrev pub parent_in : Whole → Option ParentSurvey
+parent_in w = cond (is_some w.network.parent) (Some (parent_of w)) None
+
 -- ---- all of it
 
 abbrev pub survey_of : Whole → Survey
@@ -92,5 +102,5 @@ survey_of w = record {
   peers = peers_from w 0 w.network.peers;
   elements = map (element_of w) w.network.elements;
   links = map (link_of w) (adjacencies w.network);
-  parent = cond (is_some w.network.parent) (Some (parent_of w)) None;
+  parent = parent_in w;
 }

@@ -7,4 +7,4 @@ mod reading;
 pub use figures::{
     ElementSurvey, LinkSurvey, ParentSurvey, PeerSurvey, Stage, Survey, TopologySurvey,
 };
-pub use reading::survey_topology;
+pub use reading::survey;

@@ -1,12 +1,12 @@
 //! What is read of a network.
-ghost use Rattle.std.specs.Prelude.{◌≡◌, length, map, OnOk, IfOk};
+ghost use Rattle.std.specs.Prelude.{◌≡◌, ◌+◌, length, map, IfOk};
 ghost use Rattle.request_table.specs.Pending.{asked_by};
-ghost use Rattle.plant_text.specs.Settings.{Adjacency, adjacencies};
+ghost use Rattle.plant_text.specs.Settings.{adjacencies};
 ghost use Rattle.plant_network.specs.Topologies.{whole};
-ghost use Rattle.plant_network.specs.network_links.Adjacencies.{adjacency_of};
+ghost use Rattle.plant_network.specs.network_links.Carried.{flow_of};
 ghost use Rattle.plant_network.specs.plant_model.Types.{Outside};
 ghost use Rattle.plant_survey.specs.Phases.{both, stage_at};
-ghost use Rattle.plant_survey.specs.Surveys.{element_of, figures_of, link_of, parent_in, peer_of, peers_from, survey_of};
+ghost use Rattle.plant_survey.specs.Surveys.{element_of, figures_of, link_of, no_figures, parent_in, peer_of, peers_from, survey_of};
 
 use crate::figures::{
     ElementSurvey, LinkSurvey, ParentSurvey, PeerSurvey, Stage, Survey, TopologySurvey,
@@ -14,7 +14,7 @@ use crate::figures::{
 use dom_base::{As, List, NoMemory, Peer, Tick};
 use path_keys::KEYS_MAX;
 use pcep_session::{Phase, Session};
-use plant_network::{Element, Plant, Topologies};
+use plant_network::{Element, Plant, Topologies, Traffic};
 use plant_text::{ElementRow, PeerRow};
 use std::alloc::Global;
 
@@ -147,12 +147,21 @@ fn survey_elements(alloc: Global, plant: &Plant) -> Result<List<ElementSurvey>, 
 
 // ---- inner links, and the parent
 
+fn end_session(traffic: &Traffic, at: As, to: As) -> Session
+    ensures { result ≡ (flow_of traffic.now).sessions at to }
+{
+    match traffic.session(at, Peer::Inner(to)) {
+        Some(session) => session,
+        None => unreachable!(),
+    }
+}
+
 fn survey_link(plant: &Plant, lower: As, upper: As) -> LinkSurvey
     ensures { result ≡ link_of (whole plant.now) (record { lower = lower; upper = upper }) }
 {
     let traffic = plant.traffic();
-    let below = traffic.link_session(lower, upper);
-    let above = traffic.link_session(upper, lower);
+    let below = end_session(traffic, lower, upper);
+    let above = end_session(traffic, upper, lower);
     LinkSurvey {
         stage: both(stage_of(&below), stage_of(&above)),
         since: Tick(below.since().0.max(above.since().0)),
