@@ -1,5 +1,5 @@
 mod Reasons
-mod Events
+pub mod Events
 mod Books
 mod Standing
 mod Closing

@@ -4,3 +4,7 @@ pub mod Known
 pub mod Handing
 pub mod Items
 pub mod Firsts
+pub mod Scripts
+pub mod Fine
+pub mod Splitting
+pub mod Written
