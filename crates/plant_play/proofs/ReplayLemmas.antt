@@ -1,5 +1,5 @@
 -- A script that comes in pieces, from line to line: what is reached after one more line, and what is left where it stops.
-use Rattle.std.proofs.Common.{◌≡◌, ◌≢◌, ◌≤◌, ◌<◌, ℕ, ◌+◌, suc, List, [], ◌∷◌, ◌++◌, All, Some, None, IfSome, length, refl, sym, ap, subst, ◌∙◌, append_assoc, inl, inr, arith}
+use Rattle.std.proofs.Common.{◌≡◌, ◌≤◌, ℕ, ◌+◌, List, [], ◌∷◌, ◌++◌, All, Some, None, IfSome, length, refl, sym, ap, subst, ◌∙◌, append_assoc, inl, inr, arith}
 use Rattle.std.proofs.KnownBytes.{Appends-nil, Appends-trans, Appends-kept}
 use Rattle.std.proofs.lemmas.List.Elements.{All-nil, All-cons}
 use Rattle.std.specs.declared.option.Option.{Option}
@@ -13,7 +13,7 @@ use Rattle.plant_play.specs.Cues.{IsCueStop, IsFileStop, PlaysCue, file_name}
 use Rattle.plant_play.specs.Logs.{Told, untold}
 use Rattle.plant_play.specs.Playing.{IsNewNetwork, PlayedNetwork, cue}
 use Rattle.plant_play.specs.Reels.{Gives, IsReelEnd, ahead}
-use Rattle.plant_play.specs.Replays.{AreAllOf, AreFirstOf, BeginsWith, Comes, DoesLine, HasNoEnd, IsLineEnd, IsReplayed, IsReplayedTo, IsTooLong, LineEnds, PassesLine, ReplayStops, StopsAtLine, is_told, octets_of}
+use Rattle.plant_play.specs.Replays.{AreAllOf, AreFirstOf, BeginsWith, Comes, DoesLine, HasNoEnd, IsLineEnd, IsReplayed, IsReplayedTo, LineEnds, PassesLine, ReplayStops, StopsAtLine, is_told, octets_of}
 use Rattle.plant_play.specs.Turns.{Turn}
 use Rattle.plant_play.specs.WholeScripts.{HasEvent, around}
 use Rattle.plant_play.specs.declared.replaying.Span.{Span}

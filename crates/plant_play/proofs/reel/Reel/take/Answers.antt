@@ -1,4 +1,4 @@
-use Rattle.std.proofs.Common.{◌≡◌, ℕ, ◌+◌, List, ◌++◌, ◌∙◌, ap, arith}
+use Rattle.std.proofs.Common.{ℕ, ◌+◌, List, ◌++◌, ◌∙◌, ap, arith}
 use Rattle.std.specs.Prelude.{slice_range}
 use Rattle.plant_play.proofs.ReelLemmas.{cuts_all, cuts_line, cuts_long}
 use Rattle.plant_play.proofs.reel.Reel.take.Goals as goal
