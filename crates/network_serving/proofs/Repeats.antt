@@ -8,8 +8,9 @@ use Rattle.plant_text.specs.declared.fault.NetFault.{NetFault}
 use Rattle.plant_text.specs.declared.fault.NetFault.TheVariants.{Duplicate}
 use Rattle.plant_text.specs.declared.settings.NetworkParts.{NetworkParts}
 use Rattle.plant_text.specs.declared.settings.PeerRow.{PeerRow}
+use Rattle.network_files.specs.Meeting.{are_alike}
 use Rattle.network_serving.specs.Files.{IsBadText}
-use Rattle.network_serving.specs.Ports.{IsFirstRepeat, IsPortFault, IsRefusedPort, are_alike, has_port, repeats, repeats_in}
+use Rattle.network_serving.specs.Ports.{IsFirstRepeat, IsPortFault, IsRefusedPort, has_port, repeats, repeats_in}
 use Rattle.network_serving.specs.declared.served.Served.{Served}
 use Rattle.network_serving.specs.declared.served.Served.TheVariants as served
 
