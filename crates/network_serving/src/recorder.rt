@@ -3,6 +3,7 @@ ghost use Rattle.std.specs.Prelude.{◌≡◌, ℕ, Some};
 ghost use Rattle.plant_record.specs.Hands.{Goes};
 ghost use Rattle.turn_desk.specs.Desks.{IsStill, stand_of};
 ghost use Rattle.turn_desk.specs.Seats.{seat_of};
+ghost use Rattle.network_serving.specs.Bases.{Desk, base_of};
 ghost use Rattle.network_serving.specs.Records.{IsLeft, hands_at};
 
 use crate::footing::Footing;
@@ -125,7 +126,9 @@ impl<G: Folder + Drop, M: Calendar + Drop, E: Sink + Drop, R: Wait + Clock + Cop
     ghost use Rattle.network_serving.specs.Records.{Writes};
 
     /// What stands behind it.
-    pub(crate) fn footing(&self) -> Footing {
+    pub(crate) fn footing(&self) -> Footing
+        ensures { base_of result ≡ Desk (stand_of self.now.seat.desk) }
+    {
         Footing::Desk(self.seat.desk.standing())
     }
 
