@@ -9,7 +9,7 @@ use Rattle.plant_text.specs.declared.fault.NetFault.TheVariants as fault
 use Rattle.network_check.specs.declared.kinds.Kind.{Kind}
 use Rattle.network_check.specs.declared.kinds.Kind.TheVariants.{Rows, Whole, Address, Fourth, Flag, Text, Name, Class, Colour, Numbers}
 use Rattle.network_check.specs.Columns.{Column, label_of, may, must, row_text, rows_text}
-use Rattle.network_check.specs.Faults.{fault_text}
+use Rattle.network_files.specs.Faults.{fault_text}
 use Rattle.network_check.specs.Places.{line_of, top_line}
 use Rattle.network_check.specs.Sheets.{sheet}
 use Rattle.network_check.specs.Told.{joined, shown, told}

@@ -11,8 +11,6 @@ pub mod Columns
 pub mod Pairs
 pub mod Sheets
 pub mod Kinds
-pub mod Meeting
 pub mod Places
 pub mod Documents
-pub mod Faults
 pub mod Told

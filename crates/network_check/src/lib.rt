@@ -4,13 +4,11 @@
 mod breaches;
 mod compare;
 mod documents;
-mod faults;
 mod fields;
 mod findings;
 mod forms;
 mod kinds;
 mod looks;
-mod meeting;
 mod pairs;
 mod places;
 mod rows;

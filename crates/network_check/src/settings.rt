@@ -5,12 +5,12 @@ ghost use Rattle.toml.specs.View.{table_view, view};
 ghost use Rattle.network_check.specs.Told.{shown};
 ghost use Rattle.network_check.specs.Faulty.{deny_text, element_text, faulty_text, first_line, header, label_at as called_at, line_at, link_text, parent_link_text, parent_text, parent_value_text, peer_text, row_at as row_in_table, row_fault, settings_fault, tables_text, top_text};
 
-use crate::faults::fault_words;
 use crate::fields::{DENIAL, ELEMENT, LINK, PARENT, PARENT_LINK, PEER, TOP};
 use crate::places::{Page, row_line, top_line};
 use crate::rows::{Rows, label_of, tell_rows, tell_table, value_at};
 use crate::told::{Piece, tell, write_name, write_pieces};
 use dom_base::NoMemory;
+use network_files::fault_words;
 use plant_text::NetFault;
 use std::alloc::Global;
 use toml::{Table, Value};
