@@ -7,6 +7,7 @@ pub mod Compare
 pub mod Breaches
 pub mod Forms
 pub mod Slots
+pub mod Sections
 pub mod Columns
 pub mod Pairs
 pub mod Sheets

@@ -12,6 +12,7 @@ mod looks;
 mod pairs;
 mod places;
 mod rows;
+mod sections;
 mod settings;
 mod slots;
 mod told;
