@@ -21,6 +21,7 @@ import signal
 import socket
 import sys
 import tempfile
+import threading
 import time
 from collections import Counter
 
@@ -34,7 +35,8 @@ EXAMPLES = os.path.join(os.path.dirname(os.path.dirname(os.path.abspath(__file__
 FILES = ("d1.txt", "d2.txt", "d3.txt", "d2-dearer.txt")
 EPOCH = 20000  # streams of one server
 TOLD = 20  # faults of one server
-LANES = 6  # peers of each class, and as many of each `down` neighbour
+FLOODS = 0.0003  # of all streams
+LANES = 8  # peers of each class, and as many of each `down` neighbour
 WITHIN = 60  # seconds in which a connection must end, on a busy machine
 PATIENCE = 0.03  # seconds that answers are waited for, where none has to come
 OPENED = messages.open_of() + messages.keepalive_of()
@@ -203,10 +205,6 @@ def answer_words(message):
 # ---- drawing
 
 
-def whole(place, kind, octets):
-    return place, kind, octets
-
-
 class Drawer:
     """Draws what peers send: the messages of the examples, right ones for a class, and changes of both."""
 
@@ -235,7 +233,7 @@ class Drawer:
         if draw.random() < 0.2:
             more.append(messages.object_of(6, 1, bytes([0, 0, draw.choice((0, 1)), draw.choice((1, 2, 3))]) + draw.choice((b"\x41\x80\0\0", b"\x44\0\0\0"))))
         if draw.random() < 0.1:
-            more.append(messages.object_of(5, 1, draw.choice((b"\x44\x7a\0\0", b"\x45\0\0\0"))))
+            more.append(messages.object_of(5, draw.choice((1, 1, 1, 2)), draw.choice((b"\x44\x7a\0\0", b"\x45\0\0\0"))))
         if draw.random() < 0.1:
             more.append(messages.object_of(17, 1, bytes(4) + bytes([1, 8, 10, draw.choice((2, 3)), 0, draw.choice((1, 2)), 32, 1])))
         if not name.startswith("client") or domains != (DOMAINS[name][0],) or draw.random() < 0.5:
@@ -256,6 +254,10 @@ class Drawer:
     def reply(self, number, draw):
         """A reply of a neighbour that paths go on through."""
         parts = [messages.parameters_of(number, 0x40)]
+        if draw.random() < 0.1:
+            return messages.message_of(6, parts[0], messages.object_of(13, 1, bytes([0, 0, *draw.choice(((4, 4), (13, 1), (8, 0), (3, 1), (4, 1)))])))
+        if draw.random() < 0.05:
+            return messages.message_of(5, parts[0], messages.object_of(12, 1, bytes([0, 0, 1, 2])))
         for _ in range(draw.choice((0, 1, 1, 1, 2, 3))):
             hop = bytes([1, 8, 10, 4, 0, draw.randrange(1, 4), 32, 0])
             key = bytes([64, 8, 0, draw.randrange(1, 9), 192, 0, 2, 4]) + bytes([1, 8, 10, 4, 0, 9, 32, 0])
@@ -292,9 +294,18 @@ class Drawer:
             return self.changer.message(draw.choice(self.corpus.messages), draw.choice(self.corpus.messages))
         return draw.randbytes(draw.randrange(1, 200))
 
+    def flood(self, name, draw):
+        """More requests than an element has room for, through a neighbour that need not answer."""
+        domains = DOMAINS[name] + (4 + draw.randrange(3),)
+        ends = messages.ends_between(FIRST[domains[0]], "10.4.0.1")
+        return [OPENED] + [messages.message_of(messages.REQUEST, messages.parameters_of(number, 0 if name.startswith("client") else 0x40), ends, messages.through(domains))
+                           for number in range(1, 1100)]
+
     def stream(self, name, draw):
         """The pieces that a peer sends."""
         self.changer.draw = draw
+        if draw.random() < FLOODS:
+            return self.flood(name, draw)
         octets = self.opening(draw) + b"".join(self.message(name, draw) for _ in range(draw.choice((0, 1, 1, 2, 2, 3, 5, 8))))
         how = draw.random()
         if how < 0.6:
@@ -348,7 +359,7 @@ class Line:
             return
         if self.pieces and self.table.state != "down":
             self.send(self.pieces.pop(0))
-            self.job.at(time.monotonic() + (self.draw.choice((0, 0, 0.001, 0.005)) if self.pieces else 0), self, "step")
+            self.job.at(time.monotonic() + (self.draw.choice((0, 0, 0.001, 0.005)) if 0 < len(self.pieces) < 5 else 0), self, "step")
         elif self.table.state == "down" or self.is_cut:
             self.phase = "ends"
         elif self.table.stream.held:
@@ -388,7 +399,9 @@ class Line:
         return next((word for word, number in self.answers if number == self.probed), None)
 
     def close(self):
-        if self.phase == "waits":
+        if self.phase == "waits" and self.table.stream.held:
+            self.half_close()
+        elif self.phase == "waits":
             self.phase = "ends"
             self.send(messages.message_of(7, messages.object_of(15, 1, bytes([0, 0, 0, 1]))))
 
@@ -577,7 +590,6 @@ class Job:
                     self.compare(server)
 
     def serve(self, server, ports, count):
-        import threading
         self.selector, self.timers, self.order, self.left, self.is_over = selectors.DefaultSelector(), [], itertools.count(), count, threading.Event()
         slow, lines = [], []
         for place, (name, port) in enumerate(ports):
