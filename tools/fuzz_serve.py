@@ -35,7 +35,6 @@ EXAMPLES = os.path.join(os.path.dirname(os.path.dirname(os.path.abspath(__file__
 FILES = ("d1.txt", "d2.txt", "d3.txt", "d2-dearer.txt")
 EPOCH = 20000  # streams of one server
 TOLD = 20  # faults of one server
-FLOODS = 0.0003  # of all streams
 LANES = 8  # peers of each class, and as many of each `down` neighbour
 WITHIN = 60  # seconds in which a connection must end, on a busy machine
 PATIENCE = 0.03  # seconds that answers are waited for, where none has to come
@@ -208,8 +207,8 @@ def answer_words(message):
 class Drawer:
     """Draws what peers send: the messages of the examples, right ones for a class, and changes of both."""
 
-    def __init__(self, changer, corpus):
-        self.changer, self.corpus = changer, corpus
+    def __init__(self, changer, corpus, floods=0):
+        self.changer, self.corpus, self.floods = changer, corpus, floods
 
     def domains(self, name, draw):
         own = DOMAINS[name]
@@ -304,7 +303,7 @@ class Drawer:
     def stream(self, name, draw):
         """The pieces that a peer sends."""
         self.changer.draw = draw
-        if draw.random() < FLOODS:
+        if self.floods and draw.random() < 1 / self.floods:
             return self.flood(name, draw)
         octets = self.opening(draw) + b"".join(self.message(name, draw) for _ in range(draw.choice((0, 1, 1, 2, 2, 3, 5, 8))))
         how = draw.random()
@@ -598,7 +597,7 @@ class Job:
             else:
                 lines.append(Line(self, name, port))
         said = len(server.told.all)
-        good = GoodClient(self, self.good_port)
+        slow.append(GoodClient(self, self.good_port))
         for thread in slow:
             thread.start()
         for line in lines:
@@ -609,15 +608,13 @@ class Job:
             self.turn()
             if time.monotonic() > turn:
                 turn = time.monotonic() + 1
-                good.ask()
                 server.say("load 2 %s" % random.choice(("d2.txt", "d2-dearer.txt")))
                 if not server.is_running():
                     self.differs("the server ends with status %s" % server.process.returncode)
                     break
         self.is_over.set()
         for thread in slow:
-            thread.join(5)
-        good.session.close()
+            thread.join(WITHIN + 5)
         if len(server.told.all) > said:
             self.differs("standard error says %s" % server.told.all[said:])
         if server.is_running():
@@ -657,24 +654,31 @@ class Job:
             self.differs("the record: %s" % fault)
 
 
-class GoodClient:
+class GoodClient(threading.Thread):
     """A client that asks for one path again and again."""
 
     def __init__(self, job, port):
+        super().__init__(daemon=True)
         self.job, self.number, self.port = job, 0, port
-        self.session = Session(HOST, port, WITHIN).begin()
-        if job.kept:
-            self.session.close()
-            self.session = records.KeptSession(job.kept, HOST, port, WITHIN).begin()
 
-    def ask(self):
+    def begin(self):
+        if self.job.kept:
+            return records.KeptSession(self.job.kept, HOST, self.port, WITHIN).begin()
+        return Session(HOST, self.port, WITHIN).begin()
+
+    def run(self):
+        while not self.job.is_over.is_set():
+            try:
+                with self.begin() as session:
+                    while not self.job.is_over.wait(0.5):
+                        self.ask(session)
+            except (Ended, Silent, OSError) as fault:
+                if not self.job.is_over.is_set():
+                    self.job.differs("a client that does no harm: %s" % fault)
+
+    def ask(self, session):
         self.number += 1
-        try:
-            octets = self.session.ask(messages.request_of(self.number, "10.1.0.1", "10.3.0.9", (1, 2, 3)), WITHIN)
-        except (Ended, Silent) as fault:
-            self.job.differs("a client that does no harm: %s" % fault)
-            self.session = Session(HOST, self.port, WITHIN).begin()
-            return
+        octets = session.ask(messages.request_of(self.number, "10.1.0.1", "10.3.0.9", (1, 2, 3)), WITHIN)
         objects = messages.read(octets).objects
         cost, notice = messages.first_body(objects, "METRIC"), messages.first_body(objects, "NOTIFICATION")
         if messages.first_body(objects, "RP")["id"] != self.number or not (cost and cost["value"] in LEAST or notice == {"type": 1, "value": 2}):
@@ -686,9 +690,9 @@ class GoodClient:
 
 def lanes_of(given):
     """A process that runs servers one behind the other, and tells of each what was tried."""
-    path, seed, place, counts, recorded, changer, corpus, folder, told = given
+    path, seed, place, counts, recorded, floods, changer, corpus, folder, told = given
     signal.signal(signal.SIGINT, signal.SIG_IGN)
-    job = Job(path, seed, place, Drawer(changer(None), corpus()), folder)
+    job = Job(path, seed, place, Drawer(changer(None), corpus(), floods), folder)
     for turn, count in enumerate(counts):
         try:
             job.run(count, recorded and turn % recorded == 0)
@@ -723,13 +727,13 @@ def report(met):
     print("fuzz: memory: %s" % ", ".join(sorted(name for (kind, _, name) in met if kind == "memory")), flush=True)
 
 
-def fuzz(path, seed, count, jobs, recorded, changer, corpus):
+def fuzz(path, seed, count, jobs, recorded, floods, changer, corpus):
     """Tries so many streams; whether all was right."""
     told, met, wrong, compared, events, began = multiprocessing.Queue(), Counter(), 0, 0, 0, time.monotonic()
     numbers, over = Counter(), 0
     with tempfile.TemporaryDirectory() as folder:
         each = [count // jobs + (place < count % jobs) for place in range(jobs)]
-        processes = [multiprocessing.Process(target=lanes_of, args=((path, seed, place, [min(EPOCH, share - at) for at in range(0, share, EPOCH)], recorded, changer,
+        processes = [multiprocessing.Process(target=lanes_of, args=((path, seed, place, [min(EPOCH, share - at) for at in range(0, share, EPOCH)], recorded, floods, changer,
                                                                      corpus, folder, told),)) for place, share in enumerate(each)]
         for process in processes:
             process.start()
