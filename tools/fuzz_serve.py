@@ -486,7 +486,9 @@ class Line:
                     self.differs("%d is answered %s, and was asked %d times" % (number, word, self.table.asked[number]))
         if len([1 for word, number in self.answers if number is None]) > self.table.requests + sum(self.table.replied.values()) and not self.table.is_loose:
             self.differs("it hears more errors than it sent requests")
-        if self.probed and self.probe() not in AT_LAST[self.name] and not (self.is_cut and self.probe() is None):
+        # a reply that is sent beside that request may end the session before its answer
+        is_over = self.is_cut or self.table.says[-1].startswith("close")
+        if self.probed and self.probe() not in AT_LAST[self.name] and not (is_over and self.probe() is None):
             self.differs("a right request at the end is answered %s" % self.probe())
 
 
@@ -692,6 +694,7 @@ def lanes_of(given):
     """A process that runs servers one behind the other, and tells of each what was tried."""
     path, seed, place, counts, recorded, floods, changer, corpus, folder, told = given
     signal.signal(signal.SIGINT, signal.SIG_IGN)
+    signal.signal(signal.SIGTERM, signal.SIG_DFL)
     job = Job(path, seed, place, Drawer(changer(None), corpus(), floods), folder)
     for turn, count in enumerate(counts):
         try:
