@@ -1,7 +1,7 @@
 """What `tools/fuzz --serve` does: sends changed streams of octets to a running server, at peers of all classes, and tells what was met.
 
-A stream is what a peer sends over one connection, in pieces. It is drawn from the seed and its own number: mostly a right opening, and then
-messages of the examples, right ones of that peer's class, and changed ones. Of each it must be true that
+A stream is what a peer sends over one connection, in pieces. It is drawn from the seed and its own number (but for the keys in it, of which some were
+heard of late): mostly a right opening, and then messages of the examples, right ones of that peer's class, and changed ones. Of each it must be true that
   - what the session says is what the table of docs/PROFILE.md ("Sessions") says of these octets, which `Table` here works out by itself;
   - each answer is to a request that the peer sent over this connection, and no request is answered twice;
   - in time the connection ends, or stays where the table says so; where it stays a right request is answered by what was worked out by hand;
@@ -23,7 +23,7 @@ import sys
 import tempfile
 import threading
 import time
-from collections import Counter
+from collections import Counter, deque
 
 import messages
 import records
@@ -209,6 +209,7 @@ class Drawer:
 
     def __init__(self, changer, corpus, floods=0):
         self.changer, self.corpus, self.floods = changer, corpus, floods
+        self.keys = deque([(number, "192.0.2.%d" % at) for number in range(1, 9) for at in (1, 2, 3)], 200)  # that were heard of late
 
     def domains(self, name, draw):
         own = DOMAINS[name]
@@ -225,7 +226,8 @@ class Drawer:
         """A right request of this class."""
         number = draw.randrange(1, 50)
         if draw.random() < 0.15:
-            return messages.expansion_of(number, draw.randrange(1, 30), "192.0.2.%d" % draw.randrange(1, 4))
+            key, where = draw.choice(self.keys)
+            return messages.expansion_of(number, key if draw.random() < 0.8 else draw.randrange(65536), where)
         domains = self.domains(name, draw)
         flags = 0 if name.startswith("client") else 0x40
         more = []
@@ -435,7 +437,9 @@ class Line:
             if word:
                 self.heard.append(word)
                 return
-            for answer, number in answer_words(messages.read(octets)):
+            message = messages.read(octets)
+            self.job.drawer.keys.extend((hop.value[0], str(hop.value[1])) for one in message.objects if one.name == "ERO" for hop in one.body["hops"] if hop.kind == "key")
+            for answer, number in answer_words(message):
                 self.answers.append((answer, number))
                 if answer == "request sent on" and self.name == "down neighbour" and self.forged < 8 and self.phase in ("fenced", "waits"):
                     self.forged += 1
