@@ -20,6 +20,8 @@ HOST = servers.HOST
 SHARED = 20  # peers at one port
 BEHIND = 17  # the domain behind the last element
 TOLD = 7  # what its element tells
+BRANCH = messages.object_of(7, 1, b"".join(bytes([1, 8, 10, BEHIND, 0, place, 32, 0]) for place in (1, 2)))
+SEVEN = messages.object_of(6, 1, bytes([0, 0, 2, 2, 0x40, 0xE0, 0, 0]))  # 7.0 in single precision
 FAR = 101  # the domain of the neighbours that ask
 NO_KEY, BUSY = "no path 0 00000010", "notice 1/2"
 LIFE, KEYS, PENDING = 20, 8192, 1024  # of the server at its limits
@@ -129,8 +131,7 @@ class Behind(Beside):
             number = messages.first_body(messages.read(octets).objects, "RP")["id"]
             if octets[1] == messages.REQUEST:
                 self.go.count["asked behind the last element"] += 1
-                session.send(messages.message_of(messages.REPLY, messages.parameters_of(number, 0x40), messages.object_of(
-                    7, 1, bytes([1, 8, 10, BEHIND, 0, 1, 32, 0]) + bytes([1, 8, 10, BEHIND, 0, 2, 32, 0])), messages.object_of(6, 1, bytes([0, 0, 2, 2, 0x40, 0xE0, 0, 0]))))
+                session.send(messages.message_of(messages.REPLY, messages.parameters_of(number, 0x40), BRANCH, SEVEN))
 
 
 def behind_asker(run, opened, elements, one):

@@ -89,8 +89,8 @@ def told(octets):
 
 
 def settings(domain):
-    rows = [{"name": "n%d" % (domain - 1), "as": domain, "class": "neighbour", "neighbour": domain - 1, "down": True, "from": address(domain - 1)}] if domain > 1 else []
-    rows += [{"name": "n%d" % (domain + 1), "as": domain, "class": "neighbour", "neighbour": domain + 1, "down": True, "connect": address(domain + 1)}] if domain < PROGRAMS else []
+    rows = [{"name": "n%d" % other, "as": domain, "class": "neighbour", "neighbour": other, "down": True, key: address(other)}
+            for other, key in ((domain - 1, "from"), (domain + 1, "connect")) if 1 <= other <= PROGRAMS]
     rows += [{"name": "c%d" % domain, "as": domain, "class": "client", "from": address(100 + domain)}]
     element = {"as": domain, "id": "192.0.2.%d" % domain, "topology": "d%d.txt" % domain, "key_life": 5}
     return servers.rows("element", element) + servers.rows("peer", *rows)
@@ -499,7 +499,8 @@ PARTS = (loss, silence, parted, vanished, still)
 def one_part(part, program, seed, told_to):
     try:
         made = part(program, seed)
-        told_to.put((part.__name__, made.wrong, made.count, made.times, made.longest, [made.wire.carried, made.wire.lost, made.wire.turned, made.wire.doubled, made.wire.reset]))
+        wire = made.wire
+        told_to.put((part.__name__, made.wrong, made.count, made.times, made.longest, [wire.carried, wire.lost, wire.turned, wire.doubled, wire.reset]))
     except (servers.NotStarted, OSError, Ended, Silent, subprocess.SubprocessError, ValueError) as fault:
         told_to.put((part.__name__, ["%s: %s" % (type(fault).__name__, fault)], Counter(), [], 0.0, [0] * 5))
 

@@ -19,7 +19,6 @@ import random
 import selectors
 import signal
 import socket
-import sys
 import tempfile
 import threading
 import time
@@ -298,9 +297,9 @@ class Drawer:
     def flood(self, name, draw):
         """More requests than an element has room for, through a neighbour that need not answer."""
         domains = DOMAINS[name] + (4 + draw.randrange(3),)
-        ends = messages.ends_between(FIRST[domains[0]], "10.4.0.1")
-        return [OPENED] + [messages.message_of(messages.REQUEST, messages.parameters_of(number, 0 if name.startswith("client") else 0x40), ends, messages.through(domains))
-                           for number in range(1, 1100)]
+        ends, way = messages.ends_between(FIRST[domains[0]], "10.4.0.1"), messages.through(domains)
+        flags = 0 if name.startswith("client") else 0x40
+        return [OPENED] + [messages.message_of(messages.REQUEST, messages.parameters_of(number, flags), ends, way) for number in range(1, 1100)]
 
     def stream(self, name, draw):
         """The pieces that a peer sends."""
@@ -438,7 +437,8 @@ class Line:
                 self.heard.append(word)
                 return
             message = messages.read(octets)
-            self.job.drawer.keys.extend((hop.value[0], str(hop.value[1])) for one in message.objects if one.name == "ERO" for hop in one.body["hops"] if hop.kind == "key")
+            routes = [one.body["hops"] for one in message.objects if one.name == "ERO"]
+            self.job.drawer.keys.extend((hop.value[0], str(hop.value[1])) for hops in routes for hop in hops if hop.kind == "key")
             for answer, number in answer_words(message):
                 self.answers.append((answer, number))
                 if answer == "request sent on" and self.name == "down neighbour" and self.forged < 8 and self.phase in ("fenced", "waits"):
@@ -740,8 +740,9 @@ def fuzz(path, seed, count, jobs, recorded, floods, changer, corpus):
     numbers, over = Counter(), 0
     with tempfile.TemporaryDirectory() as folder:
         each = [count // jobs + (place < count % jobs) for place in range(jobs)]
-        processes = [multiprocessing.Process(target=lanes_of, args=((path, seed, place, [min(EPOCH, share - at) for at in range(0, share, EPOCH)], recorded, floods, changer,
-                                                                     corpus, folder, told),)) for place, share in enumerate(each)]
+        turns = [[min(EPOCH, share - at) for at in range(0, share, EPOCH)] for share in each]
+        processes = [multiprocessing.Process(target=lanes_of, args=((path, seed, place, counts, recorded, floods, changer, corpus, folder, told),))
+                     for place, counts in enumerate(turns)]
         for process in processes:
             process.start()
         try:
