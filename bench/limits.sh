@@ -118,7 +118,7 @@ def word(octets):
 
 def gigabytes(pid, name):
     with open("/proc/%s" % (pid and "%d/status" % pid or "meminfo")) as file:
-        return next(int(line.split()[1]) for line in file if line.startswith(name)) / 1e6
+        return next(int(line.split()[1]) for line in file if line.startswith(name)) * 1024 / 1e9
 
 
 def watch(server, is_over):
