@@ -306,14 +306,17 @@ def waits_for_broken(part, what, begun):
 
 
 def quiet(part, seconds, what):
-    """So long nothing but right answers may come, and some must."""
+    """So long nothing but right answers may come, and some must, of whole paths both ways too."""
     before, since = part.count["answered right"], time.monotonic()
+
+    def came():
+        return part.count["answered right"] - before >= seconds / PACE / 2 and all(asker.right.get(asker.questions[0].domains, 0) >= since for asker in part.askers)
     time.sleep(seconds)
-    if part.count["answered right"] - before < seconds / PACE / 2:
-        part.differs("%s: only %d answers in %d seconds" % (what, part.count["answered right"] - before, seconds))
-    for asker in part.askers:
-        if asker.right.get(asker.questions[0].domains, 0) < since:
-            part.differs("%s: c%d is answered no whole path" % (what, asker.domain))
+    while not came() and time.monotonic() < since + seconds + SLACK:
+        time.sleep(0.05)
+    if not came():
+        part.differs("%s: in %d seconds %d answers, whole paths last asked at %s" % (
+            what, seconds + SLACK, part.count["answered right"] - before, [asker.right.get(asker.questions[0].domains, 0) - since for asker in part.askers]))
 
 
 # ---- the parts
