@@ -36,6 +36,7 @@ EPOCH = 20000  # streams of one server
 TOLD = 20  # faults of one server
 LANES = 8  # peers of each class, and as many of each `down` neighbour
 WITHIN = 60  # seconds in which a connection must end, on a busy machine
+AT_REST = 20  # seconds in which some requests are answered, where nothing else is done
 PATIENCE = 0.03  # seconds that answers are waited for, where none has to come
 OPENED = messages.open_of() + messages.keepalive_of()
 LEAST = {16, 61}  # the costs of 10.1.0.1 to 10.3.0.9 in the two topologies of the second domain: 1 + 5 + 10 or 1 + 50 + 10
@@ -603,13 +604,14 @@ class Job:
             else:
                 lines.append(Line(self, name, port))
         said = len(server.told.all)
-        slow.append(GoodClient(self, self.good_port))
+        good = GoodClient(self, self.good_port)
+        slow.append(good)
         for thread in slow:
             thread.start()
         for line in lines:
             self.left -= 1
             line.begin()
-        self.busy, turn = len(lines), time.monotonic()
+        self.busy, turn, self.server_runs = len(lines), time.monotonic(), server.is_running
         while self.busy:
             self.turn()
             if time.monotonic() > turn:
@@ -618,6 +620,7 @@ class Job:
                 if not server.is_running():
                     self.differs("the server ends with status %s" % server.process.returncode)
                     break
+        good.is_answered()
         self.is_over.set()
         for thread in slow:
             thread.join(WITHIN + 5)
@@ -681,6 +684,15 @@ class GoodClient(threading.Thread):
             except (Ended, Silent, OSError) as fault:
                 if not self.job.is_over.is_set():
                     self.job.differs("a client that does no harm: %s" % fault)
+
+    def is_answered(self):
+        """Once all others have gone nothing may be left that its requests have to wait for."""
+        wanted, until = self.number + 3, time.monotonic() + AT_REST
+        while self.number < wanted and self.job.server_runs():
+            if time.monotonic() > until:
+                self.job.differs("a client that does no harm waits for %d seconds once all others have gone" % AT_REST)
+                return
+            time.sleep(0.05)
 
     def ask(self, session):
         self.number += 1
