@@ -2,7 +2,7 @@
 
 A stream is what a peer sends over one connection, in pieces. It is drawn from the seed and its own number (but for the keys in it, of which some were
 heard of late): mostly a right opening, and then messages of the examples, right ones of that peer's class, and changed ones. Of each it must be true that
-  - what the session says is what the table of docs/PROFILE.md ("Sessions") says of these octets, which `Table` here works out by itself;
+  - what the session says is what the table of docs/PROFILE.md ("Sessions") says of these octets, which session_table.py works out by itself;
   - each answer is to a request that the peer sent over this connection, and no request is answered twice;
   - in time the connection ends, or stays where the table says so; where it stays a right request is answered by what was worked out by hand;
   - others are answered as before, standard error says nothing more, and the server goes on.
@@ -27,6 +27,7 @@ from collections import Counter, deque
 import messages
 import records
 import servers
+from session_table import ROWS, Table, answer_words, session_word
 from sessions import Ended, Session, Silent
 
 HOST = servers.HOST
@@ -34,14 +35,14 @@ EXAMPLES = os.path.join(os.path.dirname(os.path.dirname(os.path.abspath(__file__
 FILES = ("d1.txt", "d2.txt", "d3.txt", "d2-dearer.txt")
 EPOCH = 20000  # streams of one server
 TOLD = 20  # faults of one server
-LANES = 8  # peers of each class, and as many of each `down` neighbour
-WITHIN = 60  # seconds in which a connection must end, on a busy machine
+LANES = 5  # peers of each class, and as many of each `down` neighbour
+WITHIN = 60  # seconds in which something must come, on a busy machine
+TURNS = 200  # turns of our own in which it must come, too
+LAG = 1.0  # seconds for which these lines stood still themselves, behind which times are not judged
 AT_REST = 20  # seconds in which some requests are answered, where nothing else is done
 PATIENCE = 0.03  # seconds that answers are waited for, where none has to come
 OPENED = messages.open_of() + messages.keepalive_of()
 LEAST = {16, 61}  # the costs of 10.1.0.1 to 10.3.0.9 in the two topologies of the second domain: 1 + 5 + 10 or 1 + 50 + 10
-STATEFUL = {10: "19/5", 11: "19/2"}
-OF_SESSION = (1, 2, 9, 19)  # types of PCErr that a session says
 
 # classes of peers: the element, and the keys of the row
 CLASSES = {"client": (1, {}), "client of the middle": (2, {}), "client that may not expand": (3, {"expand": False}), "neighbour": (2, {"neighbour": 7}),
@@ -54,151 +55,10 @@ AT_LAST = {name: ("path",) if name.startswith("client") else ("branches", "notic
 FIRST = {1: "10.1.0.1", 2: "10.2.0.1", 3: "10.3.0.1"}
 LAST = {1: "10.1.0.1", 2: "10.2.0.2", 3: "10.3.0.9"}
 
-ROWS = ("Idle: begins", "OpenWait: Open", "OpenWait: Open of another version", "OpenWait: Close", "OpenWait: another message", "OpenWait: no message",
-        "OpenWait: 60 ticks", "KeepWait: Keepalive", "KeepWait: PCErr 1/4 with an OPEN", "KeepWait: PCErr 1/4 again", "KeepWait: PCErr 1/4 without an OPEN",
-        "KeepWait: another PCErr", "KeepWait: Close", "KeepWait: another message", "KeepWait: no message", "KeepWait: 60 ticks", "Up: Keepalive", "Up: Open",
-        "Up: PCReq", "Up: PCRep", "Up: PCNtf", "Up: PCErr", "Up: Close", "Up: type 10", "Up: type 11", "Up: unknown type", "Up: the fifth unknown type",
-        "Up: no message", "Up: DeadTimer", "Up: our Keepalive")
 ERRORS = ("1/1", "1/2", "1/6", "1/7", "1/8", "2/0", "3/1", "3/2", "4/1", "4/2", "4/4", "6/1", "6/3", "8/0", "9/0", "10/1", "13/1", "19/2", "19/5")
 CLOSES = ("1", "2", "3", "5")
 ANSWERS = ("path", "path behind a key", "branches", "no path 0", "no path 0, source", "no path 0, target", "no path 0, source, target", "no path 0, key",
            "no path 1, chain", "notice 1/2", "request sent on")
-NAMED = {0: "", 2: ", target", 4: ", source", 6: ", source, target", 8: ", chain", 16: ", key"}
-
-
-# ---- the table of a session, by docs/PROFILE.md alone
-
-
-class Table:
-    """What a session says to these octets, and which rows that takes."""
-
-    def __init__(self):
-        self.stream, self.state = messages.Stream(), "OpenWait"
-        self.says, self.rows = ["open 30 120"], ["Idle: begins"]
-        self.retried, self.unknown, self.dead, self.keepalive = False, 0, 0, 30
-        self.asked, self.replied, self.requests, self.is_loose = Counter(), Counter(), 0, False
-
-    def take(self, octets):
-        """Octets that are sent."""
-        for frame in self.stream.feed(octets):
-            if self.state == "down":
-                return
-            try:
-                if self.stream.bad and not messages.is_head(frame.ljust(4, b"\0")):
-                    raise messages.Malformed(0)
-                message = messages.read(frame)
-            except messages.Malformed:
-                self.is_loose = self.is_loose or self.state == "Up" and frame[1:2] in (b"\3", b"\4")
-                self.bad()
-                continue
-            getattr(self, "in_" + self.state)(message)
-
-    def row(self, name, *says, then=None):
-        self.rows.append("%s: %s" % (self.state, name))
-        self.says += says
-        self.state = then or self.state
-
-    def bad(self):
-        self.row("no message", "close 3" if self.state == "Up" else "error 1/1", then="down")
-
-    def in_OpenWait(self, message):
-        opening = messages.first_body(message.objects or [], "OPEN")
-        if message.kind == messages.OPEN and opening["version"] == 1:
-            self.dead = opening["dead"]
-            self.row("Open", "keepalive", then="KeepWait")
-        elif message.kind == messages.OPEN:
-            self.row("Open of another version", "error 1/8", then="down")
-        elif message.kind == messages.CLOSE:
-            self.row("Close", then="down")
-        else:
-            self.row("another message", "error 1/1", then="down")
-
-    def in_KeepWait(self, message):
-        if message.kind == messages.KEEPALIVE:
-            self.row("Keepalive", then="Up")
-        elif message.kind == messages.ERROR:
-            self.refused(messages.first_body(message.objects, "PCEP-ERROR"), messages.first_body(message.objects, "OPEN"))
-        elif message.kind == messages.CLOSE:
-            self.row("Close", then="down")
-        else:
-            self.row("another message", "error 1/1", then="down")
-
-    def refused(self, error, opening):
-        if error is None or (error["type"], error["value"]) != (1, 4):
-            self.row("another PCErr", then="down")
-        elif opening is None or self.retried:
-            self.row("PCErr 1/4 without an OPEN" if opening is None else "PCErr 1/4 again", "error 1/6", then="down")
-        else:
-            self.retried, self.keepalive = True, opening["keepalive"]
-            self.row("PCErr 1/4 with an OPEN", "open %d %d" % (opening["keepalive"], opening["dead"]))
-
-    def in_Up(self, message):
-        kind = message.kind
-        if kind == messages.KEEPALIVE:
-            self.row("Keepalive")
-        elif kind == messages.OPEN:
-            self.row("Open", "error 9/0")
-        elif kind == messages.CLOSE:
-            self.row("Close", then="down")
-        elif kind in STATEFUL:
-            self.row("type %d" % kind, "error " + STATEFUL[kind], "close 1", then="down")
-        elif message.objects is None:
-            self.unknown += 1
-            if self.unknown == 5:
-                self.row("the fifth unknown type", "error 2/0", "close 5", then="down")
-            else:
-                self.row("unknown type", "error 2/0")
-        else:
-            self.row({messages.REQUEST: "PCReq", messages.REPLY: "PCRep", messages.NOTICE: "PCNtf", messages.ERROR: "PCErr"}[kind])
-            self.passes(message)
-
-    def passes(self, message):
-        for group in messages.groups(message):
-            numbers = [one.body["id"] for one in group if one.name == "RP"]
-            if message.kind == messages.REQUEST:
-                self.requests += 1
-                self.asked.update(numbers[:1])
-            elif message.kind == messages.REPLY:
-                self.replied.update(numbers)
-
-
-# ---- what is heard
-
-
-def session_word(octets):
-    """What a session says, in short; none where it is an answer."""
-    if octets[1] == messages.KEEPALIVE:
-        return "keepalive"
-    message = messages.read(octets)
-    if message.kind == messages.OPEN:
-        body = messages.first_body(message.objects, "OPEN")
-        return "open %d %d" % (body["keepalive"], body["dead"])
-    if message.kind == messages.CLOSE:
-        return "close %d" % messages.first_body(message.objects, "CLOSE")["reason"]
-    error = messages.first_body(message.objects or [], "PCEP-ERROR")
-    if message.kind == messages.ERROR and error["type"] in OF_SESSION:
-        return "error %d/%d" % (error["type"], error["value"])
-    return None
-
-
-def answer_words(message):
-    """Of each answer in a message its kind and the number of its request."""
-    for group in messages.groups(message):
-        numbers = [one.body["id"] for one in group if one.name == "RP"] or [None]
-        error, notice, none = (messages.first_body(group, name) for name in ("PCEP-ERROR", "NOTIFICATION", "NO-PATH"))
-        if message.kind == messages.REQUEST:
-            word = "request sent on"
-        elif error:
-            word = "error %d/%d" % (error["type"], error["value"])
-        elif notice:
-            word = "notice %d/%d" % (notice["type"], notice["value"])
-        elif none:
-            word = "no path %d%s" % (none["nature"], NAMED.get(none["vector"], ", %08x" % none["vector"]))
-        else:
-            flags = messages.first_body(group, "RP")["flags"]
-            word = "path behind a key" if flags & 0x100 else "branches" if flags & 0x40 else "path"
-        for number in numbers:
-            yield word, number
 
 
 # ---- drawing
@@ -338,11 +198,26 @@ class Line:
         self.socket.setblocking(False)
         self.connection = self.job.kept.begin(self.port) if self.job.kept else None
         self.began = time.monotonic()
+        self.act()
         self.job.selector.register(self.socket, selectors.EVENT_READ, self)
         self.job.at(self.began + WITHIN, self, "late")
         self.step()
 
+    def act(self):
+        """It does or hears something now."""
+        self.active, self.turn = time.monotonic(), self.job.turns
+
+    def late(self):
+        """Nothing was done or heard for long, though there was time to."""
+        if time.monotonic() < self.active + WITHIN or self.job.turns < self.turn + TURNS:
+            self.job.at(time.monotonic() + WITHIN / 4, self, "late")
+            return
+        self.differs("its connection does not end within %d seconds" % WITHIN)
+        self.is_cut = True
+        self.end()
+
     def send(self, octets):
+        self.act()
         if self.is_cut:
             return
         try:
@@ -425,6 +300,7 @@ class Line:
         if not piece:
             self.end()
             return
+        self.act()
         if self.connection:
             self.connection.came(piece)
         for octets in self.stream.feed(piece):
@@ -508,6 +384,7 @@ def slow_cases(job, port, name):
             (messages.open_of() + messages.message_of(6, messages.object_of(13, 1, bytes([0, 0, 1, 4])), messages.open_of(2, 0)[4:]) + messages.keepalive_of(),
              ["Up: our Keepalive"], "keepalive", 2))
     for octets, met, last, seconds in itertools.cycle(rows):
+        connects = time.monotonic()
         with Session(HOST, port, within=seconds + WITHIN) as session:
             stream = records.KeptStream(job.kept.begin(port)) if job.kept else session.stream
             session.stream = stream
@@ -519,11 +396,11 @@ def slow_cases(job, port, name):
                 try:
                     words.append(session_word(session.next(1)))
                 except Silent:
-                    if time.monotonic() - began > seconds + WITHIN:
+                    if time.monotonic() - began > seconds + WITHIN + 1000 * job.stood_still(connects):
                         job.differs("%s: behind %s it says %s within %d seconds, and not %s" % (name, octets.hex(), words, seconds + WITHIN, last))
                         return
             took = time.monotonic() - began
-            if took < seconds - 1.5:
+            if took < seconds - 1.5 and not job.stood_still(connects - 120):
                 job.differs("%s: behind %s it says %s after %.1f seconds, and not %d" % (name, octets.hex(), last, took, seconds))
             job.met.update(("row", name, row) for row in met)
             job.met.update([("error" if last.startswith("error") else "close", name, last[6:])] if last != "keepalive" else [])
@@ -541,6 +418,18 @@ def guarded(job, *given):
 
 
 # ---- a server, and all that is tried at it
+
+
+class YieldingPlain(servers.Server):
+    """A server that yields to what asks it, on a busy machine."""
+
+    def begins(self):
+        super().begins()
+        os.nice(4)
+
+
+class Yielding(records.Recorded, YieldingPlain):
+    """The same with a record."""
 
 
 class Job:
@@ -588,7 +477,7 @@ class Job:
             with open(os.path.join(EXAMPLES, "three", name)) as file:
                 files.append((name, file.read()))
         self.kept = records.Came() if is_recorded else None
-        made = records.Recorded if is_recorded else servers.Server
+        made = Yielding if is_recorded else YieldingPlain
         with tempfile.TemporaryDirectory(dir=self.runs) as runs:
             with made(*([runs] if is_recorded else []), self.program, settings, files, within=WITHIN) as server:
                 self.serve(server, ports, count)
@@ -596,6 +485,7 @@ class Job:
                     self.compare(server)
 
     def serve(self, server, ports, count):
+        self.turns, self.last, self.stood = 0, time.monotonic(), 0.0
         self.selector, self.timers, self.order, self.left, self.is_over = selectors.DefaultSelector(), [], itertools.count(), count, threading.Event()
         slow, lines = [], []
         for place, (name, port) in enumerate(ports):
@@ -629,19 +519,21 @@ class Job:
         if server.is_running():
             self.met["memory", "", "at most %d MB" % (64 * (1 + int(server.most_memory()) // 64))] += 1
 
+    def stood_still(self, since):
+        """Whether these lines stood still for a while since a moment, so that no time can be judged: the server may have, too, and makes up for it."""
+        return self.stood > since or time.monotonic() - self.last > LAG
+
     def turn(self):
         now = time.monotonic()
+        if now - self.last > LAG:
+            self.stood = now
+        self.last, self.turns = now, self.turns + 1
         for key, _ in self.selector.select(max(0, min(0.1, self.timers[0][0] - now if self.timers else 0.1))):
             key.data.come()
         now = time.monotonic()
         while self.timers and self.timers[0][0] <= now:
             _, _, line, serial, what = heapq.heappop(self.timers)
-            if serial != line.serial:
-                continue
-            if what == "late":
-                line.differs("its connection does not end within %d seconds" % WITHIN)
-                line.end()
-            else:
+            if serial == line.serial:
                 getattr(line, what)()
 
     def ended(self, line):
