@@ -33,7 +33,9 @@ impl<K: Sink + Drop> Beginning<K> {
 
     fn keep(&mut self, piece: &[u8]) {
         if self.text.len() < LINE_MAX {
-            let _full = self.text.extend_from_slice(&piece[..piece.len().min(LINE_MAX)]);
+            let _full = self
+                .text
+                .extend_from_slice(&piece[..piece.len().min(LINE_MAX)]);
         }
     }
 }
