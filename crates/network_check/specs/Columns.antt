@@ -1,34 +1,19 @@
 -- What is told of the keys of rows: which lack, which are not known, and which have a value that they may not have.
-use Rattle.std.specs.Prelude.{ℕ, pos, ◌+◌, Bool, true, false, not, List, [], ◌∷◌, ◌++◌, codes, decimal, find, Option, Some, None, if◌then◌else◌}
+use Rattle.std.specs.Prelude.{ℕ, pos, ◌+◌, Bool, not, List, [], ◌∷◌, ◌++◌, codes, decimal, find, Option, Some, None, if◌then◌else◌}
 use Rattle.std.specs.List.{list_any}
 use Rattle.std.specs.Str.{bytes_eq}
 use Rattle.dom_base.specs.Steps.{◌>>=◌}
 use Rattle.toml.specs.Data.{Data, Items, no_items, item, Members, integer, array, as_str, as_table, get, get_member}
 use Rattle.plant_text.specs.SettingsText.{names}
-use Rattle.network_check.specs.declared.fields.Field.{Field}
-use Rattle.network_check.specs.declared.fields.Field.TheVariants.{Must, May}
 use Rattle.network_check.specs.declared.kinds.Kind.{Kind}
 use Rattle.network_check.specs.Kinds.{allowed_parts, is_kind}
 use Rattle.network_check.specs.Places.{key_line, line_of, top_line}
+use Rattle.network_check.specs.declared.sections.Section.{Section}
+use Rattle.network_check.specs.declared.sections.Section.TheVariants.{Peers}
 use Rattle.network_check.specs.Pairs.{pairs_text}
+use Rattle.network_check.specs.Sections.{Column, called, columns_of, header_of}
 use Rattle.network_check.specs.Sheets.{Sheet}
 use Rattle.network_check.specs.Told.{joined, shown, told}
-
--- a key that a row may have, and whether it must
-pub record Column : Type 0 where
-  pub key : List ℕ
-  pub kind : Kind
-  pub needed : Bool
-
-abbrev pub must : List ℕ → Kind → Column
-must key kind = record { key = key; kind = kind; needed = true }
-
-abbrev pub may : List ℕ → Kind → Column
-may key kind = record { key = key; kind = kind; needed = false }
-
-abbrev pub column : Field → Column
-column (Must key kind) = must key.now kind
-column (May key kind) = may key.now kind
 
 -- ---- the keys of a row
 
@@ -37,10 +22,10 @@ kind_text file line label key what kind = told file line (joined (label ∷ code
 
 -- the value is of the kind, or it is told what it may be
 abbrev pub value_text : Sheet → ℕ → List ℕ → Column → Data → List ℕ
-value_text s i label c d = if is_kind c.kind d then [] else kind_text s.file (key_line s.text s.header i c.key) label c.key (codes " is not ") c.kind
+value_text s i label c d = if is_kind c.kind d then [] else kind_text s.file (key_line s.text (header_of s.section) i c.key) label c.key (codes " is not ") c.kind
 
 abbrev pub lack_text : Sheet → ℕ → List ℕ → Column → List ℕ
-lack_text s i label c = if c.needed then kind_text s.file (line_of s.text s.header i) label c.key (codes " is missing: ") c.kind else []
+lack_text s i label c = if c.needed then kind_text s.file (line_of s.text (header_of s.section) i) label c.key (codes " is missing: ") c.kind else []
 
 abbrev pub found_text : Sheet → ℕ → List ℕ → Column → Option Data → List ℕ
 found_text s i label c (Some d) = value_text s i label c d
@@ -59,20 +44,21 @@ is_column cs key = list_any (λ (c : Column). bytes_eq key c.key) cs
 
 abbrev pub strange_text : Sheet → ℕ → List ℕ → Option (List ℕ) → List ℕ
 strange_text s i label None = []
-strange_text s i label (Some key) = told s.file (key_line s.text s.header i key) (joined (label ∷ codes ": " ∷ shown key ∷ codes " is no key there" ∷ []))
+strange_text s i label (Some key) = told s.file (key_line s.text (header_of s.section) i key) (joined (label ∷ codes ": " ∷ shown key ∷ codes " is no key there" ∷ []))
 
-abbrev pub unknown_in : List Column → Members → Option (List ℕ)
-unknown_in cs ms = find (λ k. not (is_column cs k)) (names ms)
+abbrev pub unknown_in : Section → Members → Option (List ℕ)
+unknown_in section ms = find (λ k. not (is_column (columns_of section) k)) (names ms)
 
-abbrev pub unknown_text : Sheet → ℕ → List ℕ → List Column → Members → List ℕ
-unknown_text s i label cs ms = strange_text s i label (unknown_in cs ms)
+abbrev pub unknown_text : Sheet → ℕ → List ℕ → Members → List ℕ
+unknown_text s i label ms = strange_text s i label (unknown_in s.section ms)
 
--- that, and of a peer the keys that do not go together
-abbrev pub others_text : Sheet → ℕ → List ℕ → List Column → Members → List ℕ
-others_text s i label cs ms = unknown_text s i label cs ms ++ (if s.are_peers then pairs_text s i label ms else [])
+-- of a peer, the keys that do not go together
+abbrev pub together_text : Section → Sheet → ℕ → List ℕ → Members → List ℕ
+together_text Peers s i label ms = pairs_text s i label ms
+together_text other s i label ms = []
 
-abbrev pub row_text : Sheet → ℕ → List ℕ → List Column → Members → List ℕ
-row_text s i label cs ms = columns_text s i label ms cs ++ others_text s i label cs ms
+abbrev pub row_text : Sheet → ℕ → List ℕ → Members → List ℕ
+row_text s i label ms = columns_text s i label ms (columns_of s.section) ++ (unknown_text s i label ms ++ together_text s.section s i label ms)
 
 -- ---- the rows of a table
 
@@ -99,18 +85,18 @@ row_label table (Some name) domain = joined (table ∷ codes " " ∷ shown name 
 abbrev pub label_of : List ℕ → Data → List ℕ
 label_of table d = row_label table (name_in d) (domain_in d)
 
-abbrev pub labelled_text : Sheet → List Column → ℕ → List ℕ → Option Members → List ℕ
-labelled_text s cs i label (Some ms) = row_text s i label cs ms
-labelled_text s cs i label None = told s.file (line_of s.text s.header i) (joined (label ∷ codes ": is no table" ∷ []))
+abbrev pub labelled_text : Sheet → ℕ → List ℕ → Option Members → List ℕ
+labelled_text s i label (Some ms) = row_text s i label ms
+labelled_text s i label None = told s.file (line_of s.text (header_of s.section) i) (joined (label ∷ codes ": is no table" ∷ []))
 
-abbrev pub member_text : Sheet → List Column → ℕ → Data → List ℕ
-member_text s cs i d = labelled_text s cs i (label_of s.name d) (as_table d)
+abbrev pub member_text : Sheet → ℕ → Data → List ℕ
+member_text s i d = labelled_text s i (label_of (called s.section) d) (as_table d)
 
-abbrev pub items_text : Sheet → List Column → ℕ → Items → List ℕ
-items_text s cs i no_items = []
-items_text s cs i (item d ds) = member_text s cs i d ++ items_text s cs (i + 1) ds
+abbrev pub items_text : Sheet → ℕ → Items → List ℕ
+items_text s i no_items = []
+items_text s i (item d ds) = member_text s i d ++ items_text s (i + 1) ds
 
-abbrev pub rows_text : Sheet → List Column → Option Data → List ℕ
-rows_text s cs None = []
-rows_text s cs (Some (array ds)) = items_text s cs 0 ds
-rows_text s cs (Some d) = told s.file (top_line s.text s.name) (joined (s.name ∷ codes ": is no list of tables" ∷ []))
+abbrev pub rows_text : Sheet → Option Data → List ℕ
+rows_text s None = []
+rows_text s (Some (array ds)) = items_text s 0 ds
+rows_text s (Some d) = told s.file (top_line s.text (called s.section)) (joined (called s.section ∷ codes ": is no list of tables" ∷ []))

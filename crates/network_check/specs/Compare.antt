@@ -19,7 +19,7 @@ use Rattle.network_check.specs.declared.looks.Look.{Look}
 use Rattle.network_check.specs.declared.looks.Look.TheVariants as look
 use Rattle.network_check.specs.declared.looks.Seen.{Seen}
 use Rattle.network_check.specs.declared.breaches.Breach.{Breach}
-use Rattle.network_check.specs.Faults.{fault_text}
+use Rattle.network_files.specs.Faults.{fault_text}
 use Rattle.network_check.specs.Forms.{form_text}
 use Rattle.network_check.specs.Told.{joined, told, told_if}
 

@@ -7,12 +7,11 @@ pub mod Compare
 pub mod Breaches
 pub mod Forms
 pub mod Slots
+pub mod Sections
 pub mod Columns
 pub mod Pairs
 pub mod Sheets
 pub mod Kinds
-pub mod Meeting
 pub mod Places
 pub mod Documents
-pub mod Faults
 pub mod Told

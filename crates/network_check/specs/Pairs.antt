@@ -4,6 +4,7 @@ use Rattle.std.specs.Str.{bytes_eq}
 use Rattle.dom_base.specs.Steps.{◌>>=◌}
 use Rattle.toml.specs.Data.{Members, as_bool, as_str, get_member}
 use Rattle.network_check.specs.Places.{key_line}
+use Rattle.network_check.specs.Sections.{header_of}
 use Rattle.network_check.specs.Sheets.{Sheet}
 use Rattle.network_check.specs.Told.{joined, told_if}
 
@@ -35,7 +36,7 @@ is_other ms = has_word (codes "class") (codes "client") ms || has_word (codes "c
 
 -- at the line of a key, where it is so
 abbrev pub key_text : Sheet → ℕ → List ℕ → Bool → List ℕ → List ℕ → List ℕ
-key_text s i label is key words = told_if is s.file (key_line s.text s.header i key) (joined (label ∷ words ∷ []))
+key_text s i label is key words = told_if is s.file (key_line s.text (header_of s.section) i key) (joined (label ∷ words ∷ []))
 
 -- a neighbour's domain is told, and no other peer's; and paths go on through a neighbour alone
 abbrev pub class_text : Sheet → ℕ → List ℕ → Members → List ℕ

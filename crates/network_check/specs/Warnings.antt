@@ -1,5 +1,5 @@
 -- What no rule of settings sees: elements without a topology or a link, and peers that a server could not tell apart.
-use Rattle.std.specs.Prelude.{ℕ, ◌+◌, ◌==◌, ◌&&◌, ◌||◌, Bool, true, false, not, nat_lt, is_none, List, [], ◌∷◌, ◌++◌, length, codes, decimal, Option, Some, None}
+use Rattle.std.specs.Prelude.{ℕ, ◌+◌, ◌&&◌, ◌||◌, Bool, true, false, not, nat_lt, is_none, List, [], ◌∷◌, ◌++◌, length, codes, decimal, Option, Some, None, if◌then◌else◌}
 use Rattle.std.specs.List.{list_any}
 use Rattle.dom_base.specs.declared.names.As.{As}
 use Rattle.disclosure.specs.declared.class.Class.{Class}
@@ -7,9 +7,8 @@ use Rattle.disclosure.specs.declared.class.Class.TheVariants.{Client, Neighbour,
 use Rattle.plant_text.specs.declared.settings.NetworkParts.{NetworkParts}
 use Rattle.plant_text.specs.declared.settings.ElementRow.{ElementRow}
 use Rattle.plant_text.specs.declared.settings.PeerRow.{PeerRow}
-use Rattle.plant_text.specs.declared.settings.Comes.TheVariants.{Anyone}
 use Rattle.plant_text.specs.Names.{same_as}
-use Rattle.network_check.specs.Meeting.{met, share}
+use Rattle.network_files.specs.Meeting.{are_alike, comes_to}
 use Rattle.network_check.specs.Places.{line_of}
 use Rattle.network_check.specs.Told.{joined, shown, told, told_if}
 
@@ -54,7 +53,12 @@ elements_warnings file text n i (e ∷ es) = element_warnings file text n i e ++
 -- a peer that connects at the port of watchers
 abbrev pub meets_watch : Option ℕ → PeerRow → Bool
 meets_watch None p = false
-meets_watch (Some port) p = (p.port == port) && share p.comes Anyone
+meets_watch (Some port) p = comes_to port p
+
+-- the name of the first of these that can't be told from a peer
+abbrev pub met : List PeerRow → PeerRow → Option (List ℕ)
+met [] row = None
+met (p ∷ ps) row = if are_alike p row then Some p.name else met ps row
 
 abbrev pub peer_words : PeerRow → List (List ℕ) → List ℕ
 peer_words p what = joined (codes "warning serve refuses peer " ∷ shown p.name ∷ codes ": port " ∷ decimal p.port ∷ what)

@@ -7,12 +7,12 @@ ghost use Rattle.network_check.specs.declared.looks.Seen.{Seen};
 ghost use Rattle.network_check.specs.Compare.{IsShort, breach_text, breaches_text, chart_at as first_chart, entry_warning, is_entry as is_entry_of, is_out as is_out_of, is_refused, lacks_entry as no_entry, lacks_out as no_out, line_warnings, lines_warnings, out_warning, row_warning, topologies_text, topology_text};
 
 use crate::breaches::Breach;
-use crate::faults::fault_words;
 use crate::forms::tell_form;
 use crate::looks::{Chart, Look, Seen};
 use crate::told::{Piece, tell, tell_if};
 use dom_base::{Addr, As, NoMemory};
 use line_text::{Line, Lines, Words};
+use network_files::fault_words;
 use std::alloc::Global;
 use te_links::{Entry, OutLink, Topology};
 use te_text::{RowError, TextRow, read_row};

@@ -1,6 +1,6 @@
 //! The keys that the rows of settings may have.
 ghost use Rattle.std.specs.Prelude.{◌≡◌};
-ghost use Rattle.network_check.specs.Columns.{column};
+ghost use Rattle.network_check.specs.Sections.{column};
 
 use crate::kinds::Kind;
 use plant_text::{KEY_LIFE_MAX, WORKERS_MAX};

@@ -4,16 +4,15 @@
 mod breaches;
 mod compare;
 mod documents;
-mod faults;
 mod fields;
 mod findings;
 mod forms;
 mod kinds;
 mod looks;
-mod meeting;
 mod pairs;
 mod places;
 mod rows;
+mod sections;
 mod settings;
 mod slots;
 mod told;

@@ -8,6 +8,7 @@ ghost use Rattle.network_check.specs.Sheets.{sheet_of};
 
 use crate::places::key_line;
 use crate::rows::{Rows, value_at};
+use crate::sections::header_of;
 use crate::told::{Piece, tell};
 use dom_base::NoMemory;
 use toml::Table;
@@ -70,7 +71,7 @@ fn tell_at_key<'x>(
     if !is {
         return Ok(());
     }
-    let line = key_line(rows.page.text, rows.header, index, key);
+    let line = key_line(rows.page.text, header_of(rows.section), index, key);
     tell(
         rows.page.file,
         line,

@@ -5,26 +5,25 @@ ghost use Rattle.std.specs.Option.{option_copied};
 ghost use Rattle.std.specs.Str.Lines.{lines as lines_of};
 ghost use Rattle.toml.specs.Data.{get_member};
 ghost use Rattle.toml.specs.View.{items_view, table_view, view};
+ghost use Rattle.network_check.specs.Sections.{column, columns_of};
 ghost use Rattle.network_check.specs.Sheets.{sheet_of};
-ghost use Rattle.network_check.specs.Columns.{column, columns_text, domain_in, field_text, is_column, items_text, kind_text, label_of as row_called, labelled_text, lack_text, member_text, name_in, others_text, row_label, row_text, rows_text, unknown_in, unknown_text, value_text};
+ghost use Rattle.network_check.specs.Columns.{columns_text, domain_in, field_text, is_column, items_text, kind_text, label_of as row_called, labelled_text, lack_text, member_text, name_in, row_label, row_text, rows_text, together_text, unknown_in, unknown_text, value_text};
 
 use crate::fields::{Field, key_of, kind_of};
 use crate::kinds::{Kind, fits, kind_words};
 use crate::pairs::tell_pairs;
 use crate::places::{Page, key_line, row_line, top_line};
+use crate::sections::{Section, fields_of, header_of, name_of as table_name};
 use crate::told::{Piece, tell, write_pieces};
 use dom_base::NoMemory;
 use std::alloc::Global;
 use toml::{Table, Value};
 
-/// The rows of a table of settings: the header of a row, none for the keys beside the tables; what a row is called; and whether
-/// they are outside peers.
+/// The rows of a table of settings.
 #[derive(Clone, Copy)]
 pub struct Rows<'a> {
     pub page: Page<'a>,
-    pub header: &'a [u8],
-    pub name: &'a [u8],
-    pub are_peers: bool,
+    pub section: Section,
 }
 
 /// The value of a key.
@@ -95,7 +94,7 @@ fn tell_value(
     if fits(kind, value) {
         return Ok(());
     }
-    let line = key_line(rows.page.text, rows.header, index, key);
+    let line = key_line(rows.page.text, header_of(rows.section), index, key);
     tell_kind(rows.page.file, line, label, key, b" is not ", kind, into)
 }
 
@@ -112,7 +111,7 @@ fn tell_lack(
 {
     match field {
         Field::Must(key, kind) => {
-            let line = row_line(rows.page.text, rows.header, index);
+            let line = row_line(rows.page.text, header_of(rows.section), index);
             let what = b" is missing: ";
             tell_kind(
                 rows.page.file,
@@ -174,16 +173,22 @@ fn is_known(fields: &[Field], key: &str) -> bool
     false
 }
 
-fn unknown_key<'a>(table: &'a Table, fields: &[Field]) -> Option<&'a String>
-    ensures { option_copied result ≡ find (λ k. not (is_column (map column fields.now) (string_bytes k))) (keys table.now) }
+fn has_field(section: Section, key: &str) -> bool
+    ensures { result ≡ is_column (columns_of section) key.now }
 {
-    table.keys().find(|key| !is_known(fields, key.as_str()))
+    is_known(fields_of(section), key)
 }
 
-fn unknown_name<'a>(table: &'a Table, fields: &[Field]) -> Option<&'a str>
-    ensures { option_map (λ s. s.now) result ≡ unknown_in (map column fields.now) (table_view table.now) }
+fn unknown_key(table: &Table, section: Section) -> Option<&String>
+    ensures { option_copied result ≡ find (λ k. not (is_column (columns_of section) (string_bytes k))) (keys table.now) }
 {
-    match unknown_key(table, fields) {
+    table.keys().find(|key| !has_field(section, key.as_str()))
+}
+
+fn unknown_name(table: &Table, section: Section) -> Option<&str>
+    ensures { option_map (λ s. s.now) result ≡ unknown_in section (table_view table.now) }
+{
+    match unknown_key(table, section) {
         Some(key) => Some(key.as_str()),
         None => None,
     }
@@ -195,18 +200,17 @@ fn tell_unknown<'x>(
     index: usize,
     label: &'x [u8],
     table: &'x Table,
-    fields: &[Field],
     into: &mut Vec<u8>,
 ) -> Result<(), NoMemory>
     requires short { length (lines_of (sheet_of rows.now).text) < 2 ^ 32 }
-    ensures { OnOk result (into.new.items ≡ into.old.items ++ unknown_text (sheet_of rows.now) index label.now (map column fields.now) (table_view table.now)) }
+    ensures { OnOk result (into.new.items ≡ into.old.items ++ unknown_text (sheet_of rows.now) index label.now (table_view table.now)) }
 {
-    match unknown_name(table, fields) {
+    match unknown_name(table, rows.section) {
         Some(name) => {
             let key = name.as_bytes();
             tell(
                 rows.page.file,
-                key_line(rows.page.text, rows.header, index, key),
+                key_line(rows.page.text, header_of(rows.section), index, key),
                 &[
                     Piece::Text(label),
                     Piece::Text(b": "),
@@ -220,41 +224,39 @@ fn tell_unknown<'x>(
     }
 }
 
-// The first key that is not known; and of a peer the keys that do not go together.
-fn tell_others(
+// Keys that do not go together.
+fn tell_together(
     rows: &Rows<'_>,
     index: usize,
     label: &[u8],
     table: &Table,
-    fields: &[Field],
     into: &mut Vec<u8>,
 ) -> Result<(), NoMemory>
     requires short { length (lines_of (sheet_of rows.now).text) < 2 ^ 32 }
-    ensures { OnOk result (into.new.items ≡ into.old.items ++ others_text (sheet_of rows.now) index label.now (map column fields.now) (table_view table.now)) }
+    ensures { OnOk result (into.new.items ≡ into.old.items ++ together_text rows.now.section (sheet_of rows.now) index label.now (table_view table.now)) }
 {
-    tell_unknown(rows, index, label, table, fields, into)?;
-    if rows.are_peers {
-        tell_pairs(rows, index, label, table, into)
-    } else {
-        Ok(())
+    match rows.section {
+        Section::Peers => tell_pairs(rows, index, label, table, into),
+        _other => Ok(()),
     }
 }
 
-/// The keys of a table: each that lacks or has a value that it may not have, the first that is not known, and of a peer those that
-/// do not go together.
+/// The keys of a table: each that lacks or has a value that it may not have, the first that is not known, and those that do not go
+/// together.
 pub(crate) fn tell_table(
     rows: &Rows<'_>,
     index: usize,
     label: &[u8],
     table: &Table,
-    fields: &[Field],
     into: &mut Vec<u8>,
 ) -> Result<(), NoMemory>
     requires short { length (lines_of (sheet_of rows.now).text) < 2 ^ 32 }
-    ensures { OnOk result (into.new.items ≡ into.old.items ++ row_text (sheet_of rows.now) index label.now (map column fields.now) (table_view table.now)) }
+    ensures { OnOk result (into.new.items ≡ into.old.items ++ row_text (sheet_of rows.now) index label.now (table_view table.now)) }
 {
+    let fields = fields_of(rows.section);
     tell_fields(rows, index, label, table, fields, into)?;
-    tell_others(rows, index, label, table, fields, into)
+    tell_unknown(rows, index, label, table, into)?;
+    tell_together(rows, index, label, table, into)
 }
 
 // ---- the rows of a table
@@ -327,17 +329,16 @@ fn tell_labelled(
     index: usize,
     label: &[u8],
     table: Option<&Table>,
-    fields: &[Field],
     into: &mut Vec<u8>,
 ) -> Result<(), NoMemory>
     requires short { length (lines_of (sheet_of rows.now).text) < 2 ^ 32 }
-    ensures { OnOk result (into.new.items ≡ into.old.items ++ labelled_text (sheet_of rows.now) (map column fields.now) index label.now (option_map (λ t. table_view t.now) table.entry)) }
+    ensures { OnOk result (into.new.items ≡ into.old.items ++ labelled_text (sheet_of rows.now) index label.now (option_map (λ t. table_view t.now) table.entry)) }
 {
     match table {
-        Some(table) => tell_table(rows, index, label, table, fields, into),
+        Some(table) => tell_table(rows, index, label, table, into),
         None => tell(
             rows.page.file,
-            row_line(rows.page.text, rows.header, index),
+            row_line(rows.page.text, header_of(rows.section), index),
             &[Piece::Text(label), Piece::Text(b": is no table")],
             into,
         ),
@@ -349,28 +350,26 @@ fn tell_row(
     rows: &Rows<'_>,
     index: usize,
     value: &Value,
-    fields: &[Field],
     into: &mut Vec<u8>,
 ) -> Result<(), NoMemory>
     requires short { length (lines_of (sheet_of rows.now).text) < 2 ^ 32 }
-    ensures { OnOk result (into.new.items ≡ into.old.items ++ member_text (sheet_of rows.now) (map column fields.now) index (view value.now)) }
+    ensures { OnOk result (into.new.items ≡ into.old.items ++ member_text (sheet_of rows.now) index (view value.now)) }
 {
-    let label = label_of(alloc, rows.name, value)?;
-    tell_labelled(rows, index, &label, value.as_table(), fields, into)
+    let label = label_of(alloc, table_name(rows.section).as_bytes(), value)?;
+    tell_labelled(rows, index, &label, value.as_table(), into)
 }
 
 fn tell_items(
     alloc: Global,
     rows: &Rows<'_>,
     items: &[Value],
-    fields: &[Field],
     into: &mut Vec<u8>,
 ) -> Result<(), NoMemory>
     requires short { length (lines_of (sheet_of rows.now).text) < 2 ^ 32 }
-    ensures { OnOk result (into.new.items ≡ into.old.items ++ items_text (sheet_of rows.now) (map column fields.now) 0 (items_view items.now)) }
+    ensures { OnOk result (into.new.items ≡ into.old.items ++ items_text (sheet_of rows.now) 0 (items_view items.now)) }
 {
     for i in 0..items.len() {
-        tell_row(alloc, rows, i, &items[i], fields, into)?;
+        tell_row(alloc, rows, i, &items[i], into)?;
     }
     Ok(())
 }
@@ -380,22 +379,21 @@ pub(crate) fn tell_rows(
     alloc: Global,
     rows: &Rows<'_>,
     value: Option<&Value>,
-    fields: &[Field],
     into: &mut Vec<u8>,
 ) -> Result<(), NoMemory>
     requires short { length (lines_of (sheet_of rows.now).text) < 2 ^ 32 }
-    ensures { OnOk result (into.new.items ≡ into.old.items ++ rows_text (sheet_of rows.now) (map column fields.now) (option_map (λ v. view v.now) value.entry)) }
+    ensures { OnOk result (into.new.items ≡ into.old.items ++ rows_text (sheet_of rows.now) (option_map (λ v. view v.now) value.entry)) }
 {
     let Some(value) = value else {
         return Ok(());
     };
     match value.as_array() {
-        Some(items) => tell_items(alloc, rows, items.as_slice(), fields, into),
+        Some(items) => tell_items(alloc, rows, items.as_slice(), into),
         None => tell(
             rows.page.file,
-            top_line(rows.page.text, rows.name),
+            top_line(rows.page.text, table_name(rows.section).as_bytes()),
             &[
-                Piece::Text(rows.name),
+                Piece::Text(table_name(rows.section).as_bytes()),
                 Piece::Text(b": is no list of tables"),
             ],
             into,

@@ -3,108 +3,64 @@ ghost use Rattle.std.specs.Prelude.{◌≡◌, ◌++◌, ◌<◌, ◌^◌, IfOk,
 ghost use Rattle.std.specs.Str.Lines.{lines as lines_of};
 ghost use Rattle.toml.specs.View.{table_view, view};
 ghost use Rattle.network_check.specs.Told.{shown};
-ghost use Rattle.network_check.specs.Faulty.{deny_text, element_text, faulty_text, first_line, header, label_at as called_at, line_at, link_text, parent_link_text, parent_text, parent_value_text, peer_text, row_at as row_in_table, row_fault, settings_fault, tables_text, top_text};
+ghost use Rattle.network_check.specs.Faulty.{faulty_text, first_line, header, label_at as called_at, line_at, parent_text, parent_value_text, row_at as row_in_table, row_fault, settings_fault, tables_text};
+ghost use Rattle.network_check.specs.Columns.{row_text, rows_text};
+ghost use Rattle.network_check.specs.Sheets.{sheet};
 
-use crate::faults::fault_words;
-use crate::fields::{DENIAL, ELEMENT, LINK, PARENT, PARENT_LINK, PEER, TOP};
 use crate::places::{Page, row_line, top_line};
 use crate::rows::{Rows, label_of, tell_rows, tell_table, value_at};
+use crate::sections::Section;
 use crate::told::{Piece, tell, write_name, write_pieces};
 use dom_base::NoMemory;
+use network_files::fault_words;
 use plant_text::NetFault;
 use std::alloc::Global;
 use toml::{Table, Value};
 
 // ---- tables
 
-fn tell_elements(
+fn tell_list(
     alloc: Global,
     page: &Page<'_>,
-    root: &Table,
+    section: Section,
+    value: Option<&Value>,
     into: &mut Vec<u8>,
 ) -> Result<(), NoMemory>
     requires short { length (lines_of page.now.text.now) < 2 ^ 32 }
-    ensures { OnOk result (into.new.items ≡ into.old.items ++ element_text page.now.file.now page.now.text.now (table_view root.now)) }
+    ensures { OnOk result (into.new.items ≡ into.old.items ++ rows_text (sheet page.now.file.now page.now.text.now section) (option_map (λ v. view v.now) value.entry)) }
 {
-    let rows = Rows {
-        page: *page,
-        header: b"[[element]]",
-        name: b"element",
-        are_peers: false,
-    };
-    tell_rows(alloc, &rows, value_at(root, "element"), &ELEMENT, into)
+    tell_rows(
+        alloc,
+        &Rows {
+            page: *page,
+            section,
+        },
+        value,
+        into,
+    )
 }
 
-fn tell_links(
-    alloc: Global,
+// A table by itself, or the keys beside the tables.
+fn tell_alone(
     page: &Page<'_>,
-    root: &Table,
+    section: Section,
+    label: &[u8],
+    table: &Table,
     into: &mut Vec<u8>,
 ) -> Result<(), NoMemory>
     requires short { length (lines_of page.now.text.now) < 2 ^ 32 }
-    ensures { OnOk result (into.new.items ≡ into.old.items ++ link_text page.now.file.now page.now.text.now (table_view root.now)) }
+    ensures { OnOk result (into.new.items ≡ into.old.items ++ row_text (sheet page.now.file.now page.now.text.now section) 0 label.now (table_view table.now)) }
 {
-    let rows = Rows {
-        page: *page,
-        header: b"[[link]]",
-        name: b"link",
-        are_peers: false,
-    };
-    tell_rows(alloc, &rows, value_at(root, "link"), &LINK, into)
-}
-
-fn tell_peers(
-    alloc: Global,
-    page: &Page<'_>,
-    root: &Table,
-    into: &mut Vec<u8>,
-) -> Result<(), NoMemory>
-    requires short { length (lines_of page.now.text.now) < 2 ^ 32 }
-    ensures { OnOk result (into.new.items ≡ into.old.items ++ peer_text page.now.file.now page.now.text.now (table_view root.now)) }
-{
-    let rows = Rows {
-        page: *page,
-        header: b"[[peer]]",
-        name: b"peer",
-        are_peers: true,
-    };
-    tell_rows(alloc, &rows, value_at(root, "peer"), &PEER, into)
-}
-
-fn tell_denials(
-    alloc: Global,
-    page: &Page<'_>,
-    root: &Table,
-    into: &mut Vec<u8>,
-) -> Result<(), NoMemory>
-    requires short { length (lines_of page.now.text.now) < 2 ^ 32 }
-    ensures { OnOk result (into.new.items ≡ into.old.items ++ deny_text page.now.file.now page.now.text.now (table_view root.now)) }
-{
-    let rows = Rows {
-        page: *page,
-        header: b"[[deny]]",
-        name: b"deny",
-        are_peers: false,
-    };
-    tell_rows(alloc, &rows, value_at(root, "deny"), &DENIAL, into)
-}
-
-fn tell_parent_links(
-    alloc: Global,
-    page: &Page<'_>,
-    parent: &Table,
-    into: &mut Vec<u8>,
-) -> Result<(), NoMemory>
-    requires short { length (lines_of page.now.text.now) < 2 ^ 32 }
-    ensures { OnOk result (into.new.items ≡ into.old.items ++ parent_link_text page.now.file.now page.now.text.now (table_view parent.now)) }
-{
-    let rows = Rows {
-        page: *page,
-        header: b"[[parent.link]]",
-        name: b"parent.link",
-        are_peers: false,
-    };
-    tell_rows(alloc, &rows, value_at(parent, "link"), &PARENT_LINK, into)
+    tell_table(
+        &Rows {
+            page: *page,
+            section,
+        },
+        0,
+        label,
+        table,
+        into,
+    )
 }
 
 fn tell_parent_table(
@@ -116,14 +72,9 @@ fn tell_parent_table(
     requires short { length (lines_of page.now.text.now) < 2 ^ 32 }
     ensures { OnOk result (into.new.items ≡ into.old.items ++ parent_text page.now.file.now page.now.text.now (table_view parent.now)) }
 {
-    let rows = Rows {
-        page: *page,
-        header: b"[parent]",
-        name: b"parent",
-        are_peers: false,
-    };
-    tell_table(&rows, 0, b"parent", parent, &PARENT, into)?;
-    tell_parent_links(alloc, page, parent, into)
+    let links = value_at(parent, "link");
+    tell_alone(page, Section::Parent, b"parent", parent, into)?;
+    tell_list(alloc, page, Section::ParentLinks, links, into)
 }
 
 fn tell_parent(
@@ -149,20 +100,6 @@ fn tell_parent(
     }
 }
 
-// The keys beside the tables.
-fn tell_top(page: &Page<'_>, root: &Table, into: &mut Vec<u8>) -> Result<(), NoMemory>
-    requires short { length (lines_of page.now.text.now) < 2 ^ 32 }
-    ensures { OnOk result (into.new.items ≡ into.old.items ++ top_text page.now.file.now page.now.text.now (table_view root.now)) }
-{
-    let rows = Rows {
-        page: *page,
-        header: b"",
-        name: b"settings",
-        are_peers: false,
-    };
-    tell_table(&rows, 0, b"settings", root, &TOP, into)
-}
-
 // The keys of all tables.
 fn tell_tables(
     alloc: Global,
@@ -173,12 +110,13 @@ fn tell_tables(
     requires short { length (lines_of page.now.text.now) < 2 ^ 32 }
     ensures { OnOk result (into.new.items ≡ into.old.items ++ tables_text page.now.file.now page.now.text.now (table_view root.now)) }
 {
-    tell_elements(alloc, page, root, into)?;
-    tell_links(alloc, page, root, into)?;
-    tell_peers(alloc, page, root, into)?;
-    tell_denials(alloc, page, root, into)?;
+    let elements = value_at(root, "element");
+    tell_list(alloc, page, Section::Elements, elements, into)?;
+    tell_list(alloc, page, Section::Links, value_at(root, "link"), into)?;
+    tell_list(alloc, page, Section::Peers, value_at(root, "peer"), into)?;
+    tell_list(alloc, page, Section::Denials, value_at(root, "deny"), into)?;
     tell_parent(alloc, page, value_at(root, "parent"), into)?;
-    tell_top(page, root, into)
+    tell_alone(page, Section::Top, b"settings", root, into)
 }
 
 // ---- the first rule that is broken

@@ -1,15 +1,15 @@
 //! What no rule of settings sees: elements without a topology or a link, and peers that a server could not tell apart.
-ghost use Rattle.std.specs.Prelude.{◌≡◌, ◌++◌, ◌<◌, ◌^◌, OnOk, [], length};
+ghost use Rattle.std.specs.Prelude.{◌≡◌, ◌++◌, ◌<◌, ◌^◌, OnOk, [], length, option_map};
 ghost use Rattle.std.specs.List.{list_any};
 ghost use Rattle.std.specs.Str.Lines.{lines as lines_of};
-ghost use Rattle.network_check.specs.Warnings.{element_warnings, elements_warnings, ends_at, is_alone as is_alone_in, is_joined, is_way, leads_out, link_warning, meets_watch as comes_to_watch, met_warning, peer_warnings, peers_warnings, settings_warnings, topology_warning, watch_warning};
+ghost use Rattle.network_check.specs.Warnings.{element_warnings, elements_warnings, ends_at, is_alone as is_alone_in, is_joined, is_way, leads_out, link_warning, meets_watch as comes_to_watch, met, met_warning, peer_warnings, peers_warnings, settings_warnings, topology_warning, watch_warning};
 
-use crate::meeting::{first_alike, share};
 use crate::places::{Page, row_line};
 use crate::told::{Piece, tell, tell_if};
 use disclosure::Class;
 use dom_base::{As, NoMemory};
-use plant_text::{Comes, ElementRow, NetworkParts, PeerRow};
+use network_files::{are_alike, comes_to};
+use plant_text::{ElementRow, NetworkParts, PeerRow};
 
 // ---- elements
 
@@ -130,11 +130,23 @@ fn warn_of_elements(
 
 // ---- peers
 
+// The name of the first of these peers that can't be told from another.
+fn first_alike<'a>(before: &'a [PeerRow], row: &PeerRow) -> Option<&'a [u8]>
+    ensures { option_map (λ s. s.now) result ≡ met before.now row.now }
+{
+    for peer in before {
+        if are_alike(peer, row) {
+            return Some(peer.name.as_str().as_bytes());
+        }
+    }
+    None
+}
+
 fn meets_watch(watch: Option<u16>, row: &PeerRow) -> bool
     ensures { result ≡ comes_to_watch watch row.now }
 {
     match watch {
-        Some(port) => row.port == port && share(row.comes, Comes::Anyone),
+        Some(port) => comes_to(row, port),
         None => false,
     }
 }

@@ -3,6 +3,8 @@ pub mod Loading
 pub mod Reading
 pub mod Settings
 pub mod Topologies
+pub mod Faults
+pub mod Meeting
 pub mod Draws
 pub mod DrawnRows
 pub mod DrawnFiles

@@ -1,5 +1,5 @@
 -- Peers that are alike.
-use Rattle.std.proofs.Common.{◌≡◌, ◌∙◌, ◌⊎◌, inl, inr, ◌+◌, ◌≤◌, ◌<◌, ℕ, List, length, take, get_or, ap, refl, sym, subst, arith, Bool, true, false, Option, Some, None}
+use Rattle.std.proofs.Common.{◌≡◌, ◌∙◌, inl, inr, ◌+◌, ◌<◌, ℕ, List, length, take, get_or, ap, refl, sym, subst, arith, Bool, true, false, Some}
 use Rattle.std.specs.Prelude.{codes}
 use Rattle.std.specs.List.{list_any}
 use Rattle.std.proofs.lemmas.Bool.{cases_lt}
@@ -8,8 +8,9 @@ use Rattle.plant_text.specs.declared.fault.NetFault.{NetFault}
 use Rattle.plant_text.specs.declared.fault.NetFault.TheVariants.{Duplicate}
 use Rattle.plant_text.specs.declared.settings.NetworkParts.{NetworkParts}
 use Rattle.plant_text.specs.declared.settings.PeerRow.{PeerRow}
+use Rattle.network_files.specs.Meeting.{are_alike}
 use Rattle.network_serving.specs.Files.{IsBadText}
-use Rattle.network_serving.specs.Ports.{IsFirstRepeat, IsPortFault, IsRefusedPort, are_alike, has_port, repeats, repeats_in}
+use Rattle.network_serving.specs.Ports.{IsFirstRepeat, IsPortFault, IsRefusedPort, has_port, repeats, repeats_in}
 use Rattle.network_serving.specs.declared.served.Served.{Served}
 use Rattle.network_serving.specs.declared.served.Served.TheVariants as served
 
@@ -38,6 +39,8 @@ module _ (name : List ℕ) (n : NetworkParts) where
   told fault (served.BadNetwork file line other) is bad = (bad.0, bad.1.0, subst (IsPortFault n) (sym bad.1.1) is)
   told fault served.NoMemory is bad = tt
   told fault served.Turns is bad = absurd bad
+  told fault served.Stopped is bad = absurd bad
+  told fault (served.NoRecord place) is bad = absurd bad
   told fault served.ReadFault is bad = absurd bad
   told fault (served.TooLarge file) is bad = absurd bad
   told fault (served.NoPort port) is bad = absurd bad

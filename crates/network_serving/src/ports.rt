@@ -1,63 +1,17 @@
 //! Settings with peers that a server could not tell apart.
 ghost use Rattle.std.specs.Prelude.{◌≡◌, ◌<◌, ◌≤◌, ◌^◌, ◌==◌, OnErr, OnOk, IfErr, IfNone, IfSome, length, true, false, ℕ};
 ghost use Rattle.std.specs.List.{list_any};
-ghost use Rattle.dom_base.specs.AddrOrder.{rank};
-ghost use Rattle.network_serving.specs.Ports.{AreApart, IsFirstRepeat, IsRefusedPort, are_alike as are_alike_rows, comes_to as comes_to_port, has_port, is_one as is_one_address, repeats, share as share_port};
+ghost use Rattle.network_files.specs.Meeting.{are_alike as are_alike_rows};
+ghost use Rattle.network_serving.specs.Ports.{AreApart, IsFirstRepeat, IsRefusedPort, has_port, repeats};
 ghost use Rattle.plant_text.specs.declared.fault.NetFault.TheVariants.{Duplicate};
 ghost use Rattle.network_serving.specs.Files.{IsBadText};
 
 use crate::served::Served;
 use crate::settings::bad_network;
-use dom_base::{Addr, Text};
-use dom_edge::canonical;
-use plant_text::{Comes, NetFault, Network, PeerRow};
+use dom_base::Text;
+use network_files::{are_alike, comes_to};
+use plant_text::{NetFault, Network, PeerRow};
 use std::alloc::Global;
-
-fn is_same(a: Addr, b: Addr) -> bool
-    ensures { result ≡ (rank a == rank b) }
-{
-    a == b
-}
-
-// Whether both are one address of a machine, where one of IPv6 may hold one of IPv4.
-fn is_one(a: Addr, b: Addr) -> bool
-    ensures { result ≡ is_one_address a b }
-{
-    is_same(canonical(a), canonical(b))
-}
-
-// Whether two peers at one port can't be told apart, or are dialled at one address.
-fn share(a: Comes, b: Comes) -> bool
-    ensures { result ≡ share_port a b }
-{
-    match a {
-        Comes::Anyone => match b {
-            Comes::Anyone | Comes::From(_) => true,
-            Comes::Dialled(_) => false,
-        },
-        Comes::From(one) => match b {
-            Comes::Anyone => true,
-            Comes::From(other) => is_one(one, other),
-            Comes::Dialled(_) => false,
-        },
-        Comes::Dialled(one) => match b {
-            Comes::Anyone | Comes::From(_) => false,
-            Comes::Dialled(other) => is_one(one, other),
-        },
-    }
-}
-
-fn are_alike(a: &PeerRow, b: &PeerRow) -> bool
-    ensures { result ≡ are_alike_rows a.now b.now }
-{
-    a.port == b.port && share(a.comes, b.comes)
-}
-
-fn comes_to(row: &PeerRow, port: u16) -> bool
-    ensures { result ≡ comes_to_port port row.now }
-{
-    row.port == port && share(row.comes, Comes::Anyone)
-}
 
 // Whether one of these peers connects at that port.
 fn has_port(peers: &[PeerRow], port: u16) -> bool

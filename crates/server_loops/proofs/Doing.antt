@@ -31,7 +31,8 @@ use Rattle.ted_watch.specs.declared.shown.Shown.{Shown}
 use Rattle.server_loops.specs.Charts.{Asks, Call, Charted, Current, Did, Mapped, current_of}
 use Rattle.server_loops.specs.Operating.{Context, Does, DoesAsked, DoesEvent, DoesShut, IsEndOf, IsFirstPart, Loads, Past, Publishes, ShowsMapped, Progress, WithFile, Work, is_done, line_most, past, shown_by}
 use Rattle.server_loops.specs.OperatorSteps.{Acted, Asked, DoesFile, DoesTask, DoesText, EndsAs, answered, Goes, IsBegun, IsFile, IsPartDone, Refuses, shut_task, task_of, text_of}
-use Rattle.server_loops.specs.Texts.{bad_network_text, fault_text, read_fault_text, too_large_text}
+use Rattle.network_files.specs.Faults.{fault_text}
+use Rattle.server_loops.specs.Texts.{bad_network_text, read_fault_text, too_large_text}
 use Rattle.server_loops.specs.declared.lines.Task.{Task}
 use Rattle.server_loops.specs.declared.operating.Operated.{Operated}
 use Rattle.server_loops.specs.declared.operating.Operated.TheVariants.{End, ReadFault, Turns, Spent, NoMemory}

@@ -1,40 +1,11 @@
 //! What is said of a line. Each call writes at the end; after a refusal a part may stand there.
 ghost use Rattle.std.specs.Prelude.{◌≡◌, ◌++◌, ◌∷◌, [], codes, decimal, OnOk};
 ghost use Rattle.transcript.specs.Lines.{numbered};
-ghost use Rattle.server_loops.specs.Texts.{bad_network_text, fault_text, too_large_text, topo_text};
+ghost use Rattle.server_loops.specs.Texts.{bad_network_text, too_large_text};
 
 use dom_base::{NoMemory, write_number};
+use network_files::fault_words;
 use plant_text::NetFault;
-use te_links::TopoFault;
-
-fn topo_words(fault: TopoFault) -> &'static [u8]
-    ensures { result.now ≡ topo_text fault }
-{
-    match fault {
-        TopoFault::TooMany => b"too many",
-        TopoFault::DuplicateNode => b"duplicate node",
-        TopoFault::UnknownNode => b"unknown node",
-        TopoFault::OwnAs => b"own as",
-        TopoFault::BadMetric => b"bad metric",
-        TopoFault::DuplicateNear => b"duplicate near",
-        TopoFault::DuplicateFar => b"duplicate far",
-        TopoFault::DuplicateEntry => b"duplicate entry",
-        TopoFault::Syntax => b"syntax",
-        TopoFault::NoHeader => b"no header",
-    }
-}
-
-fn fault_words(fault: &NetFault) -> &'static [u8]
-    ensures { result.now ≡ fault_text fault.now }
-{
-    match fault {
-        NetFault::Topo(told) => topo_words(*told),
-        NetFault::OtherAs => b"other as",
-        NetFault::Absent => b"absent",
-        NetFault::Present => b"present",
-        _other => b"",
-    }
-}
 
 // `LINE ` and these words, without a line end.
 fn write_head(number: u32, words: &[u8], into: &mut Vec<u8>) -> Result<(), NoMemory>

@@ -1,5 +1,6 @@
 use Rattle.std.proofs.Common.{◌≡◌, drop, map}
-use Rattle.network_check.specs.Columns.{column, is_column}
+use Rattle.network_check.specs.Columns.{is_column}
+use Rattle.network_check.specs.Sections.{column}
 use Rattle.network_check.proofs.rows.is_known.Given as goal
 
 abbrev pub invariant-loop-field : goal.invariant-loop-field

@@ -1,6 +1,7 @@
 use Rattle.std.proofs.Common.{◌≡◌, ◌++◌, drop, map}
 use Rattle.toml.specs.View.{table_view}
-use Rattle.network_check.specs.Columns.{column, columns_text}
+use Rattle.network_check.specs.Columns.{columns_text}
+use Rattle.network_check.specs.Sections.{column}
 use Rattle.network_check.specs.Sheets.{sheet_of}
 use Rattle.network_check.proofs.rows.tell_fields.Given as goal
 

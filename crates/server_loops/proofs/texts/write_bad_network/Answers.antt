@@ -1,5 +1,5 @@
 use Rattle.std.proofs.Common.{◌∙◌, ◌++◌, ◌∷◌, [], ℕ, List, ap, decimal}
-use Rattle.server_loops.specs.Texts.{fault_text}
+use Rattle.network_files.specs.Faults.{fault_text}
 use Rattle.server_loops.proofs.Doing.{bad_network_parts}
 use Rattle.server_loops.proofs.texts.write_bad_network.Goals as goal
 

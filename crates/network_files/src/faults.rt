@@ -1,6 +1,6 @@
 //! The words of faults.
 ghost use Rattle.std.specs.Prelude.{◌≡◌};
-ghost use Rattle.network_check.specs.Faults.{fault_text, topology_text};
+ghost use Rattle.network_files.specs.Faults.{fault_text, topology_text};
 
 use plant_text::NetFault;
 use te_links::TopoFault;
@@ -23,7 +23,7 @@ fn topology_words(fault: TopoFault) -> &'static [u8]
 }
 
 /// The words of a fault that names no row of settings.
-pub(crate) fn fault_words(fault: &NetFault) -> &'static [u8]
+pub fn fault_words(fault: &NetFault) -> &'static [u8]
     ensures { result.now ≡ fault_text fault.now }
 {
     match fault {

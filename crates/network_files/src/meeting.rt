@@ -1,7 +1,7 @@
 //! Peers that a server could not tell apart.
-ghost use Rattle.std.specs.Prelude.{◌≡◌, ◌==◌, option_map};
+ghost use Rattle.std.specs.Prelude.{◌≡◌, ◌==◌};
 ghost use Rattle.dom_base.specs.AddrOrder.{rank};
-ghost use Rattle.network_check.specs.Meeting.{are_alike as are_alike_rows, is_one as is_one_address, met, share as share_port};
+ghost use Rattle.network_files.specs.Meeting.{are_alike as are_alike_rows, comes_to as comes_to_port, is_one as is_one_address, share as share_port};
 
 use dom_base::Addr;
 use dom_edge::canonical;
@@ -20,8 +20,8 @@ fn is_one(a: Addr, b: Addr) -> bool
     is_same(canonical(a), canonical(b))
 }
 
-/// Whether two peers at one port can't be told apart, or are dialled at one address.
-pub(crate) fn share(a: Comes, b: Comes) -> bool
+// Whether two peers at one port can't be told apart, or are dialled at one address.
+fn share(a: Comes, b: Comes) -> bool
     ensures { result ≡ share_port a b }
 {
     match a {
@@ -41,20 +41,16 @@ pub(crate) fn share(a: Comes, b: Comes) -> bool
     }
 }
 
-fn are_alike(a: &PeerRow, b: &PeerRow) -> bool
+/// Whether a server could not tell two peers apart.
+pub fn are_alike(a: &PeerRow, b: &PeerRow) -> bool
     ensures { result ≡ are_alike_rows a.now b.now }
 {
     a.port == b.port && share(a.comes, b.comes)
 }
 
-/// The name of the first of these peers that can't be told from another.
-pub(crate) fn first_alike<'a>(before: &'a [PeerRow], row: &PeerRow) -> Option<&'a [u8]>
-    ensures { option_map (λ s. s.now) result ≡ met before.now row.now }
+/// Whether a peer connects, at that port.
+pub fn comes_to(row: &PeerRow, port: u16) -> bool
+    ensures { result ≡ comes_to_port port row.now }
 {
-    for peer in before {
-        if are_alike(peer, row) {
-            return Some(peer.name.as_str().as_bytes());
-        }
-    }
-    None
+    row.port == port && share(row.comes, Comes::Anyone)
 }

@@ -1,5 +1,5 @@
 -- Peers that a server could not tell apart: both come to one port, and not each from an address of its own; or both are dialled at one address and port.
-use Rattle.std.specs.Prelude.{ℕ, ◌==◌, ◌&&◌, Bool, true, false, List, [], ◌∷◌, Option, Some, None, if◌then◌else◌}
+use Rattle.std.specs.Prelude.{ℕ, ◌==◌, ◌&&◌, Bool, true, false}
 use Rattle.dom_base.specs.declared.addr.Addr.{Addr}
 use Rattle.dom_base.specs.AddrOrder.{rank}
 use Rattle.dom_edge.specs.Heeding.{canonical}
@@ -11,6 +11,7 @@ use Rattle.plant_text.specs.declared.settings.Comes.TheVariants.{Anyone, From, D
 abbrev pub is_one : Addr → Addr → Bool
 is_one a b = rank (canonical a) == rank (canonical b)
 
+-- at one port: both connect, and not each from an address of its own; or both are dialled at one address
 abbrev pub share : Comes → Comes → Bool
 share (Dialled a) (Dialled b) = is_one a b
 share (Dialled a) Anyone = false
@@ -25,7 +26,6 @@ share (From a) Anyone = true
 abbrev pub are_alike : PeerRow → PeerRow → Bool
 are_alike p q = (p.port == q.port) && share p.comes q.comes
 
--- the name of the first of these that is like a row
-abbrev pub met : List PeerRow → PeerRow → Option (List ℕ)
-met [] row = None
-met (p ∷ ps) row = if are_alike p row then Some p.name else met ps row
+-- a peer that connects, at that port
+abbrev pub comes_to : ℕ → PeerRow → Bool
+comes_to port row = (row.port == port) && share row.comes Anyone
