@@ -1,5 +1,5 @@
 mod Reasons
-pub mod Events
+mod Events
 mod Books
 mod Standing
 mod Closing

@@ -21,10 +21,18 @@ use Rattle.event_tape.specs.declared.told.Told.TheVariants.{Load, Open, Shut, Re
 use Rattle.event_lines.specs.EventLines.{IsInRange, load_name}
 use Rattle.plant_record.specs.Books.{AreLoads, BeginsWith, Deed, File, IsBook, IsLoad, IsPage, IsReadAgain, Script, Topology, files, kept, next_part, told_in}
 use Rattle.plant_record.specs.Parts.{Part, Title, last_tick, load_count, loaded_by, topologies}
-use Rattle.plant_record.proofs.Events.{topologies_append, topologies_more}
 use Rattle.record_laws.specs.Records.{HoldsAll, IsTitle}
 use Rattle.record_laws.proofs.Items.{Comment, Item, Line, book_events, book_items, end_text, events_in, events_with, head_text, page_items, with_end, with_events}
 use Rattle.record_laws.proofs.Printed.{Printed, Within, all_within, decimal_printed, is_printed, printed_append, printed_within, within_append}
+
+-- ---- topologies of events
+
+pub topologies_append : (xs ys : List Told) → topologies (xs ++ ys) ≡ topologies xs ++ topologies ys
+topologies_append [] ys = refl
+topologies_append (e ∷ es) ys = ap (λ (gs : List Rows). loaded_by e ++ gs) (topologies_append es ys) ∙ sym (append_assoc (loaded_by e) (topologies es) (topologies ys))
+
+topologies_more : (xs : List Told) (e : Told) → topologies (xs ++ e ∷ []) ≡ topologies xs ++ loaded_by e
+topologies_more xs e = topologies_append xs (e ∷ []) ∙ ap (λ (gs : List Rows). topologies xs ++ gs) (append-nil (loaded_by e))
 
 -- ---- moments
 

@@ -2,7 +2,7 @@
 use Rattle.std.proofs.Common.{◌≡◌, ◌≢◌, ◌∙◌, ℕ, ◌+◌, length, List, [], ◌∷◌, ◌++◌, reverse, refl, sym, ap, subst, append_assoc, append-nil, inl, inr}
 use Rattle.std.specs.List.{AllByRecursion}
 use Rattle.std.proofs.lemmas.List.{reverse-append, reverse-reverse}
-use Rattle.record_laws.specs.Temp.{octets_of}
+use Rattle.client_laws.specs.plant_play.Replays.{octets_of}
 use Rattle.record_laws.proofs.Printed.{Within, within_all}
 
 -- ---- one line

@@ -89,7 +89,7 @@ hands_of_run n older s es day own hands =
 
 -- ---- its peers are those of the settings
 
-is_of : (n : NetworkParts) (e : Told) → IsKnown n (event_of e) → IsSayable e → IsOf n e
+pub is_of : (n : NetworkParts) (e : Told) → IsKnown n (event_of e) → IsSayable e → IsOf n e
 is_of n (Load d g) known says = says.0
 is_of n (Open p h) known says = (known, says.0)
 is_of n (Shut p) known says = known

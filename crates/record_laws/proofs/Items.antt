@@ -7,7 +7,7 @@ use Rattle.event_tape.specs.declared.told.Told.{Told}
 use Rattle.event_lines.specs.EventLines.{event_line, event_words}
 use Rattle.plant_record.specs.Books.{Deed, Script, Topology, next_part, told_in}
 use Rattle.plant_record.specs.Parts.{Part, Title, head_line, last_tick, lines_behind, load_count, part_text, reason, tail_by}
-use Rattle.record_laws.specs.Temp.{octets_of}
+use Rattle.client_laws.specs.plant_play.Replays.{octets_of}
 
 -- a comment, or the line of an event
 pub data Item : Type 0 where

@@ -8,3 +8,5 @@ pub mod Scripts
 pub mod Fine
 pub mod Splitting
 pub mod Written
+pub mod Playing
+pub mod Replaying

@@ -1,4 +1,4 @@
 -- for readers
 pub mod Days
 pub mod Records
-pub mod Temp
+pub mod Replayed

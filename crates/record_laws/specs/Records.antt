@@ -1,17 +1,21 @@
 -- The record of a day: the files of its run, and the lines of its script.
-use Rattle.std.specs.Prelude.{◌≡◌, ℕ, ◌-◌, cond, codes, drop, length, List, [], ◌∷◌, ◌++◌, Bool, Option, Some}
+use Rattle.std.specs.Prelude.{◌≡◌, ◌⊎◌, ℕ, ◌-◌, cond, codes, drop, length, List, [], ◌∷◌, ◌++◌, Bool, Option, Some}
 use Rattle.std.specs.List.{AllByRecursion, flat_map}
 use Rattle.std.specs.Str.{bytes_eq}
+use Rattle.std.specs.Str.Lines.{strip_carriage_return}
 use Rattle.dom_edge.specs.Folders.{Contents}
 use Rattle.dom_edge.specs.Moments.{IsMomentText}
 use Rattle.dom_edge.specs.Stores.{Files}
 use Rattle.plant_text.specs.Reads.{Reads}
+use Rattle.plant_text.specs.Lines.{line_in}
+use Rattle.plant_text.specs.declared.line.LineEvent.TheVariants.{CertifyOn, DiscloseOn}
 use Rattle.plant_text.specs.declared.settings.NetworkParts.{NetworkParts}
+use Rattle.event_tape.specs.declared.tape.TapeEnd.{TapeEnd}
 use Rattle.event_tape.specs.declared.told.Told.{Told}
 use Rattle.plant_record.specs.Books.{File}
 use Rattle.plant_record.specs.Parts.{Title}
-use Rattle.plant_record.specs.Recording.{IsPart}
-use Rattle.record_laws.specs.Temp.{HasNoEnd}
+use Rattle.plant_record.specs.Recording.{IsPart, IsWhole}
+use Rattle.client_laws.specs.plant_play.Replays.{AreAllOf, AreFirstOf, HasNoEnd}
 
 -- ---- the script of a folder
 
@@ -38,6 +42,38 @@ pub record IsRecord (n : NetworkParts) (told : List Told) (c : Contents) : Type 
   pub is_title : IsTitle n title
   pub part : IsPart n.peers title told (Some c)
 
+-- All of them do, and a last line may say how the tape ended.
+pub record IsWholeRecord (n : NetworkParts) (told : List Told) (c : Contents) : Type 0 where
+  pub title : Title
+  pub is_title : IsTitle n title
+  pub ended : Option TapeEnd
+  pub whole : IsWhole n.peers title told ended (Some c)
+
+-- ---- what is played of it
+
 -- a store has each of these files as it was closed
 abbrev pub HoldsAll : Files → List File → Type 0
 HoldsAll held files = AllByRecursion (λ (f : File). held f.0 ≡ Some f.1) files
+
+-- `certify on` or `disclose on`
+abbrev pub ShowsMore : NetworkParts → List ℕ → Type 0
+ShowsMore n line = (line_in n (strip_carriage_return line) ≡ Some (Some CertifyOn)) ⊎ (line_in n (strip_carriage_return line) ≡ Some (Some DiscloseOn))
+
+abbrev pub AreShowing : NetworkParts → List (List ℕ) → Type 0
+AreShowing n lines = AllByRecursion (ShowsMore n) lines
+
+-- Lines of this script, where it may be said before them what is to be shown; lines have the last one first.
+pub record AreLines (n : NetworkParts) (Of : Option (List ℕ) → List (List ℕ) → Type 0) (script : List ℕ) (lines : List (List ℕ)) : Type 0 where
+  pub shown : List (List ℕ)
+  pub shows : AreShowing n shown
+  pub recorded : List (List ℕ)
+  pub are : lines ≡ recorded ++ shown
+  pub of : Of (Some script) recorded
+
+-- some first lines of the script of a folder
+abbrev pub AreFirstLines : NetworkParts → Contents → List (List ℕ) → Type 0
+AreFirstLines n c lines = AreLines n AreFirstOf (script_of c.closed) lines
+
+-- all of them that are whole
+abbrev pub AreAllLines : NetworkParts → Contents → List (List ℕ) → Type 0
+AreAllLines n c lines = AreLines n AreAllOf (script_of c.closed) lines

@@ -1,2 +1,7 @@
-//! Laws of a record: a play of its lines says what the run that it was written of said. Laws, as the contracts of calls that do nothing.
+//! What a record of a day is worth: its lines, played again, say what was said on that day. Laws, as the contracts of calls that do
+//! nothing.
 #![tactic(auto)]
+
+mod laws;
+
+pub use laws::{hands_are_said, records_are_replayed, whole_records_are_replayed};
