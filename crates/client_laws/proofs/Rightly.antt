@@ -21,7 +21,7 @@ use Rattle.client_laws.proofs.FedBytes.{script_fed}
 use Rattle.client_laws.proofs.Loadable.{runs_are_loadable}
 use Rattle.client_laws.proofs.Onward.{scripts_are_runs}
 
-pub runs_are_right : (n : NetworkParts) → IsNetwork n → (es : List Entry) (s : Plant) → Run wire n es s → IsRight n es s
+runs_are_right : (n : NetworkParts) → IsNetwork n → (es : List Entry) (s : Plant) → Run wire n es s → IsRight n es s
 runs_are_right n ok es s run = record {
   run = run;
   least = of_written_net_ids LeastAnswersIn OfRun.least_answers_are wire wire_is_codec n ok es s run;

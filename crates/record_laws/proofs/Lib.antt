@@ -9,4 +9,5 @@ pub mod Fine
 pub mod Splitting
 pub mod Written
 pub mod Playing
+pub mod Rightly
 pub mod Replaying

@@ -78,7 +78,7 @@ or_true false = refl
 skipped : (text : List ℕ) → slice_index text 0 ≡ 35 → is_skipped text ≡ true
 skipped text is = ap (λ (c : ℕ). list_all is_blank text || (c == 35)) is ∙ or_true (list_all is_blank text)
 
-remark_says : (n : NetworkParts) (text : List ℕ) → IsRemark text → line_in n (strip_carriage_return text) ≡ Some None
+pub remark_says : (n : NetworkParts) (text : List ℕ) → IsRemark text → line_in n (strip_carriage_return text) ≡ Some None
 remark_says n text is = rw (skipped (strip_carriage_return text) (first_stays text is.0)) refl
 
 -- a line that ends with a blank is outside the form
@@ -204,7 +204,7 @@ are_printed [] all = tt
 are_printed (w ∷ words) all = (words_printed w all.0.bytes, are_printed words all.1)
 
 module _ (says : LinesSayEvents) (n : NetworkParts) (obeyed : AreObeyed (rules_of n)) (k : ℕ) (few : k < 2 ^ 64) where
-  said : (e : Told) → IsKnown n (event_of e) → IsSayable e → SaysEvent n k e
+  pub said : (e : Told) → IsKnown n (event_of e) → IsSayable e → SaysEvent n k e
   said e known is = says n obeyed k few e (is_of n e known is)
 
   said_printed : (e : Told) → IsKnown n (event_of e) → IsSayable e → Printed (joined (event_words n.peers k e))
@@ -258,11 +258,11 @@ snoc_same xs ys x y is =
     let rest : reverse xs ≡ reverse ys = cc in
     (sym (reverse-reverse xs) ∙ ap reverse rest ∙ reverse-reverse ys, first)
 
-known_front : (P : Told → Type 0) (es : List Told) (e : Told) → AllByRecursion P (es ++ e ∷ []) → AllByRecursion P es
+pub known_front : (P : Told → Type 0) (es : List Told) (e : Told) → AllByRecursion P (es ++ e ∷ []) → AllByRecursion P es
 known_front P [] e all = tt
 known_front P (x ∷ es) e all = (all.0, known_front P es e all.1)
 
-known_last : (P : Told → Type 0) (es : List Told) (e : Told) → AllByRecursion P (es ++ e ∷ []) → P e
+pub known_last : (P : Told → Type 0) (es : List Told) (e : Told) → AllByRecursion P (es ++ e ∷ []) → P e
 known_last P [] e all = all.0
 known_last P (x ∷ es) e all = known_last P es e all.1
 

@@ -1,11 +1,16 @@
 -- A record that is played.
-use Rattle.std.proofs.Common.{◌≡◌, ◌≢◌, ◌∙◌, ℕ, ◌+◌, ◌^◌, ◌<◌, Bool, true, false, length, map, List, [], ◌∷◌, ◌++◌, Option, Some, None, refl, sym, ap, subst, append_assoc, append-nil}
+use Rattle.std.proofs.Common.{◌≡◌, ◌≢◌, ◌∙◌, ℕ, ◌+◌, ◌^◌, ◌<◌, Bool, true, false, length, map, List, [], ◌∷◌, ◌++◌, Option, Some, None, refl, sym, ap, subst, append_assoc, append-nil, inl, inr}
+use Rattle.std.specs.Arc.{arc_value}
 use Rattle.std.specs.List.{AllByRecursion}
 use Rattle.std.proofs.lemmas.List.{map-append}
 use Rattle.std.proofs.lemmas.List.Elements.{All-nil, All-cons, recursion_from_All, All-head, All-tail}
 use Rattle.dom_edge.specs.Folders.{Contents}
 use Rattle.dom_edge.specs.Stores.{Files}
 use Rattle.plant_text.specs.Faults.{AreObeyed, first_of}
+use Rattle.line_text.specs.Spelling.{joined}
+use Rattle.te_text.specs.TopologyText.{topology_text}
+use Rattle.plant_text.specs.Lines.{line_in}
+use Rattle.plant_text.specs.declared.line.LineEvent.TheVariants as line
 use Rattle.plant_text.specs.Reads.{Reads}
 use Rattle.plant_text.specs.Rules.{Rules, rules, rules_of}
 use Rattle.plant_text.specs.SettingsText.{sheet_in}
@@ -19,7 +24,8 @@ use Rattle.event_tape.specs.Tapes.{event_of}
 use Rattle.event_tape.specs.declared.tape.Handed.{Handed}
 use Rattle.event_tape.specs.declared.tape.TapeEnd.{TapeEnd}
 use Rattle.event_tape.specs.declared.told.Told.{Told}
-use Rattle.event_lines.specs.EventLines.{LinesSayEvents}
+use Rattle.event_tape.specs.declared.told.Told.TheVariants.{Load, Open, Shut, Receive, Take, Carry, Break, Solve, Tick, Drain}
+use Rattle.event_lines.specs.EventLines.{LinesSayEvents, event_words, line_of as line_event}
 use Rattle.plant_record.specs.Books.{BeginsWith}
 use Rattle.plant_record.specs.Parts.{Title, load_count}
 use Rattle.plant_lock.specs.History.{replay}
@@ -44,17 +50,17 @@ use Rattle.client_laws.specs.plant_play.Playing.{PlayedNetwork}
 use Rattle.client_laws.specs.plant_play.Replays.{HasNoEnd, Replaying, Replays, octets_of}
 use Rattle.client_laws.specs.plant_play.Turns.{Turn, entries_of}
 use Rattle.client_laws.specs.plant_play.declared.replaying.Span.{Span}
-use Rattle.client_laws.proofs.Rightly.{runs_are_right}
-use Rattle.record_laws.specs.Days.{AreHandsOf, IsDay, events_by}
-use Rattle.record_laws.specs.Records.{AreAllLines, AreFirstLines, AreShowing, HoldsAll, IsRecord, IsTitle, IsWholeRecord, script_of}
-use Rattle.record_laws.specs.Replayed.{IsReplayed, IsReplayedToEnd, RecordsAreReplayed, WholeRecordsAreReplayed}
-use Rattle.record_laws.proofs.Fine.{AllFine, IsFine}
+use Rattle.record_laws.specs.Days.{AreHandsOf, HasOctets, IsDay, events_by}
+use Rattle.record_laws.specs.Records.{AreAllLines, AreFirstLines, AreShowing, HasAll, HoldsAll, IsReadable, IsRecord, IsTitle, IsWholeRecord, ShowsMore, script_of}
+use Rattle.record_laws.specs.Replayed.{IsReplayed, IsReplayedToEnd, RecordsAreReadable, RecordsAreReplayed, WholeRecordsAreReplayed}
+use Rattle.record_laws.proofs.Fine.{AllFine, IsFiled, IsFineLine}
 use Rattle.record_laws.proofs.Firsts.{AllWithin, AreLast, first_lines}
 use Rattle.record_laws.proofs.Handing.{DayRun, HandsOfRun, hands_of_run}
 use Rattle.record_laws.proofs.Items.{Comment, Item, Line, events_in, line_of, lines_of}
 use Rattle.record_laws.proofs.Known.{IsKnown, told_known}
-use Rattle.record_laws.proofs.Playing.{Follows, items_follow, line_printed}
-use Rattle.record_laws.proofs.Printed.{Within, all_within, printed_within, within_all}
+use Rattle.record_laws.proofs.Playing.{Follows, items_follow, known_front, known_last, line_printed, remark_says, said}
+use Rattle.record_laws.proofs.Printed.{Within, all_within, printed_stays, printed_within, within_all}
+use Rattle.record_laws.proofs.Rightly.{runs_are_right}
 use Rattle.record_laws.proofs.Splitting.{IsSplit, RunsTo, newest_append, runs_to, split_accepted, split_at}
 use Rattle.record_laws.proofs.Written.{IsScript, IsWholeScript, of_record, of_whole}
 
@@ -79,20 +85,12 @@ module _ (says : LinesSayEvents) (n : NetworkParts) (obeyed : AreObeyed (rules_o
   abbrev Known : Told → Type 0
   Known e = IsKnown n (event_of e)
 
-  known_front : (es : List Told) (e : Told) → AllByRecursion Known (es ++ e ∷ []) → AllByRecursion Known es
-  known_front [] e all = tt
-  known_front (x ∷ es) e all = (all.0, known_front es e all.1)
-
-  known_last : (es : List Told) (e : Told) → AllByRecursion Known (es ++ e ∷ []) → Known e
-  known_last [] e all = all.0
-  known_last (x ∷ es) e all = known_last es e all.1
-
   lines_within : (items : List Item) → AllFine held items → AllByRecursion Known (events_in items) → AllWithin (lines_of n.peers items)
   lines_within [] fine known = tt
   lines_within (Comment c ∷ items) fine known = (fine.0.1, lines_within items fine.1 known)
   lines_within (Line e ∷ items) fine known = (
-    printed_within (line_of n.peers (events_in items) (Line e)) (line_printed says n obeyed (load_count (events_in items ++ e ∷ [])) fine.0.few e (known_last (events_in items) e known) fine.0.in_range),
-    lines_within items fine.1 (known_front (events_in items) e known),
+    printed_within (line_of n.peers (events_in items) (Line e)) (line_printed says n obeyed (load_count (events_in items ++ e ∷ [])) fine.0.few e (known_last Known (events_in items) e known) fine.0.in_range),
+    lines_within items fine.1 (known_front Known (events_in items) e known),
   )
 
 -- ---- some of the items
@@ -131,12 +129,12 @@ all_front : (n : NetworkParts) (es : List Told) (rest : List Event) → AllByRec
 all_front n [] rest known = tt
 all_front n (e ∷ es) rest known = (known.0, all_front n es rest known.1)
 
-all_begin : (n : NetworkParts) (all es : List Told) → BeginsWith all es → AllByRecursion (λ (e : Told). IsKnown n (event_of e)) all → AllByRecursion (λ (e : Told). IsKnown n (event_of e)) es
-all_begin n all es begins known = front es begins.0 (subst (AllByRecursion (λ (e : Told). IsKnown n (event_of e))) begins.1 known)
+all_begin : (P : Told → Type 0) (all es : List Told) → BeginsWith all es → AllByRecursion P all → AllByRecursion P es
+all_begin P all es begins each = front es begins.0 (subst (AllByRecursion P) begins.1 each)
   where
-    front : (xs ys : List Told) → AllByRecursion (λ (e : Told). IsKnown n (event_of e)) (xs ++ ys) → AllByRecursion (λ (e : Told). IsKnown n (event_of e)) xs
-    front [] ys known = tt
-    front (x ∷ xs) ys known = (known.0, front xs ys known.1)
+    front : (xs ys : List Told) → AllByRecursion P (xs ++ ys) → AllByRecursion P xs
+    front [] ys each = tt
+    front (x ∷ xs) ys each = (each.0, front xs ys each.1)
 
 lines_have_no_end : (lines : List (List ℕ)) → AllByRecursion HasNoEnd lines → AllWithin lines
 lines_have_no_end [] all = tt
@@ -227,7 +225,7 @@ module _ (says : LinesSayEvents) (n : NetworkParts) (older : List Entry) (s : Ke
       → (span : Option Span) (turns : List Turn) (text : List ℕ) (end : PlayedNetwork) → Replaying (Some held) span n lines turns text end → IsFollowed n run_of (events_in items) turns end
   follows items fine begins front lines shows are span turns text end r =
       followed says n network obeyed held span run_of (replay kept_after s es).network.state (told_is_run n run_of (replay kept_after s es).network.state handed.day.run) (told_of own) handed.rest handed.tells
-      items fine begins (all_begin n (told_of own) (events_in items) begins known) front shows turns text end (subst (λ (ls : List (List ℕ)). Replaying (Some held) span n ls turns text end) are r)
+      items fine begins (all_begin (Known says n obeyed held) (told_of own) (events_in items) begins known) front shows turns text end (subst (λ (ls : List (List ℕ)). Replaying (Some held) span n ls turns text end) are r)
 
   replayed : (events : List Told) (turns : List Turn) (end : PlayedNetwork) → IsFollowed n run_of events turns end → IsReplayed n older s es (entries_of turns []) end.state
   replayed events turns end f =
@@ -244,17 +242,77 @@ module _ (says : LinesSayEvents) (n : NetworkParts) (older : List Entry) (s : Ke
         right = runs_are_right n network (entries_of turns []) end.state run;
       }
 
-  first_replayed : (script : List ℕ) → IsScript held n.peers (told_of own) script → (recorded front lines : List (List ℕ)) → AllWithin recorded → (rest : List ℕ) → script ≡ octets_of recorded ++ rest → AreShowing n front → lines ≡ recorded ++ front
-      → (span : Option Span) (turns : List Turn) (text : List ℕ) (end : PlayedNetwork) → Replaying (Some held) span n lines turns text end → IsReplayed n older s es (entries_of turns []) end.state
-  first_replayed script of recorded front lines within rest is shows are span turns text end r =
+  -- the items of which these are the lines
+  record AreFirstItems (recorded : List (List ℕ)) : Type 0 where
+    firsts : List Item
+    fine : AllFine held firsts
+    begins : BeginsWith (told_of own) (events_in firsts)
+    lines_are : recorded ≡ lines_of n.peers firsts
+
+  first_items : (script : List ℕ) → IsScript held n.peers (told_of own) script → (recorded : List (List ℕ)) → AllWithin recorded → (rest : List ℕ) → script ≡ octets_of recorded ++ rest → AreFirstItems recorded
+  first_items script of recorded within rest is =
       let items : List Item = of.items in
       let last : AreLast (lines_of n.peers items) recorded =
-      first_lines (lines_of n.peers items) recorded (rest ++ of.rest) (lines_within says n obeyed held items of.fine (all_begin n (told_of own) (events_in items) of.firsts known)) within
+      first_lines (lines_of n.peers items) recorded (rest ++ of.rest) (lines_within says n obeyed held items of.fine (all_begin (Known says n obeyed held) (told_of own) (events_in items) of.firsts known)) within
       (of.text ∙ ap (λ (xs : List ℕ). xs ++ of.rest) is ∙ append_assoc (octets_of recorded) rest of.rest) in
       let these : AreItems n.peers held items recorded = items_of n.peers held items last.later recorded of.fine last.is in
       let begins : BeginsWith (events_in items) (events_in these.firsts) = subst (λ (l : List Item). BeginsWith (events_in l) (events_in these.firsts)) (sym these.is) (events_begin these.later these.firsts) in
+      record { firsts = these.firsts; fine = these.fine; begins = begins_on (told_of own) (events_in items) (events_in these.firsts) of.firsts begins; lines_are = these.lines_are }
+
+  first_replayed : (recorded front lines : List (List ℕ)) → AreFirstItems recorded → AreShowing n front → lines ≡ recorded ++ front → (span : Option Span) (turns : List Turn) (text : List ℕ) (end : PlayedNetwork)
+      → Replaying (Some held) span n lines turns text end → IsReplayed n older s es (entries_of turns []) end.state
+  first_replayed recorded front lines these shows are span turns text end r =
       replayed (events_in these.firsts) turns end
-      (follows these.firsts these.fine (begins_on (told_of own) (events_in items) (events_in these.firsts) of.firsts begins) front lines shows (are ∙ ap (λ (ls : List (List ℕ)). ls ++ front) these.lines_are) span turns text end r)
+      (follows these.firsts these.fine these.begins front lines shows (are ∙ ap (λ (ls : List (List ℕ)). ls ++ front) these.lines_are) span turns text end r)
+
+  -- ---- lines are read
+
+  file_there : (k : ℕ) (e : Told) → IsFiled held k e → HasAll held (Some (line_event k e))
+  file_there k (Load d g) filed = (topology_text (arc_value g), filed.0)
+  file_there k (Open p h) filed = tt
+  file_there k (Shut p) filed = tt
+  file_there k (Receive p octets) filed = tt
+  file_there k (Take p) filed = tt
+  file_there k (Carry a b) filed = tt
+  file_there k (Break a b) filed = tt
+  file_there k (Solve d j) filed = tt
+  file_there k (Tick t) filed = tt
+  file_there k (Drain p h) filed = tt
+
+  event_readable : (k : ℕ) (e : Told) → IsFineLine held k e → IsKnown n (event_of e) → HasOctets e → IsReadable n held (joined (event_words n.peers k e))
+  event_readable k e fine here octets = record {
+    said = Some (line_event k e);
+    says = ap (line_in n) (printed_stays (joined (event_words n.peers k e)) (line_printed says n obeyed k fine.few e here fine.in_range)) ∙ (said says n obeyed k fine.few e here (fine.in_range, octets)).says;
+    has = file_there k e fine.filed;
+  }
+
+  items_readable : (items : List Item) → AllFine held items → AllByRecursion (Known says n obeyed held) (events_in items) → AllByRecursion HasOctets (events_in items) → AllByRecursion (IsReadable n held) (lines_of n.peers items)
+  items_readable [] fine these octets = tt
+  items_readable (Comment c ∷ items) fine these octets = (record { said = None; says = remark_says n c fine.0; has = tt }, items_readable items fine.1 these octets)
+  items_readable (Line e ∷ items) fine these octets = (
+    event_readable (load_count (events_in items ++ e ∷ [])) e fine.0 (known_last (Known says n obeyed held) (events_in items) e these) (known_last HasOctets (events_in items) e octets),
+    items_readable items fine.1 (known_front (Known says n obeyed held) (events_in items) e these) (known_front HasOctets (events_in items) e octets),
+  )
+
+  shown_readable : (front : List (List ℕ)) → AreShowing n front → AllByRecursion (IsReadable n held) front
+  shown_readable [] shows = tt
+  shown_readable (text ∷ front) shows = (one shows.0, shown_readable front shows.1)
+    where
+      one : ShowsMore n text → IsReadable n held text
+      one (inl is) = record { said = Some line.CertifyOn; says = is; has = tt }
+      one (inr is) = record { said = Some line.DiscloseOn; says = is; has = tt }
+
+  readable_append : (xs ys : List (List ℕ)) → AllByRecursion (IsReadable n held) xs → AllByRecursion (IsReadable n held) ys → AllByRecursion (IsReadable n held) (xs ++ ys)
+  readable_append [] ys h k = k
+  readable_append (x ∷ xs) ys h k = (h.0, readable_append xs ys h.1 k)
+
+  first_readable : (recorded front lines : List (List ℕ)) → AreFirstItems recorded → AreShowing n front → lines ≡ recorded ++ front → AllByRecursion HasOctets (told_of own) → AllByRecursion (IsReadable n held) lines
+  first_readable recorded front lines these shows are octets =
+      let items : List Item = these.firsts in
+      let events : AllByRecursion (Known says n obeyed held) (events_in items) = all_begin (Known says n obeyed held) (told_of own) (events_in items) these.begins known in
+      let said_all : AllByRecursion (IsReadable n held) (lines_of n.peers items) = items_readable items these.fine events (all_begin HasOctets (told_of own) (events_in items) these.begins octets) in
+      subst (AllByRecursion (IsReadable n held)) (sym are)
+      (readable_append recorded front (subst (AllByRecursion (IsReadable n held)) (sym these.lines_are) said_all) (shown_readable front shows))
 
   whole_replayed : (why : TapeEnd) → end_told own ≡ Some why → (script : List ℕ) → IsWholeScript held n.peers (told_of own) script → (recorded front lines : List (List ℕ)) → AllWithin recorded → (rest : List ℕ) → script ≡ octets_of recorded ++ rest → Within rest → AreShowing n front
       → lines ≡ recorded ++ front → (span : Option Span) (turns : List Turn) (text : List ℕ) (end : PlayedNetwork) → Replaying (Some held) span n lines turns text end → IsReplayedToEnd older s es (entries_of turns [])
@@ -263,7 +321,7 @@ module _ (says : LinesSayEvents) (n : NetworkParts) (older : List Entry) (s : Ke
       let all : BeginsWith (told_of own) (events_in items) = ([], sym of.events ∙ sym (append-nil (events_in items))) in
       let octets : octets_of (lines_of n.peers items) ≡ octets_of recorded ++ rest = of.text ∙ is in
       let last : AreLast (lines_of n.peers items) recorded =
-      first_lines (lines_of n.peers items) recorded rest (lines_within says n obeyed held items of.fine (all_begin n (told_of own) (events_in items) all known)) within octets in
+      first_lines (lines_of n.peers items) recorded rest (lines_within says n obeyed held items of.fine (all_begin (Known says n obeyed held) (told_of own) (events_in items) all known)) within octets in
       let none : last.later ≡ [] = none_later (lines_of n.peers items) recorded last.later rest last.is octets behind in
       let same : recorded ≡ lines_of n.peers items = sym (last.is ∙ ap (λ (ls : List (List ℕ)). ls ++ recorded) none) in
       let f : IsFollowed n run_of (events_in items) turns end = follows items of.fine all front lines shows (are ∙ ap (λ (ls : List (List ℕ)). ls ++ front) same) span turns text end r in
@@ -281,8 +339,18 @@ module _ (says : LinesSayEvents) (n : NetworkParts) (older : List Entry) (s : Ke
 pub records_are_replayed : LinesSayEvents → RecordsAreReplayed
 records_are_replayed says n older s es day own hands c record_of held holds lines first span turns text end r =
     let t : Title = record_of.title in
-    first_replayed says n older s es day own hands held t record_of.is_title (script_of c.closed) (of_record held n t record_of.is_title n.peers (told_of own) c record_of.part holds) first.recorded first.shown lines
-    (lines_have_no_end first.recorded (recursion_from_All HasNoEnd first.recorded first.of.0)) first.of.1.0 first.of.1.1 first.shows first.are span turns text end r
+    let script : IsScript held n.peers (told_of own) (script_of c.closed) = of_record held n t record_of.is_title n.peers (told_of own) c record_of.part holds in
+    first_replayed says n older s es day own hands held t record_of.is_title first.recorded first.shown lines
+    (first_items says n older s es day own hands held t record_of.is_title (script_of c.closed) script first.recorded (lines_have_no_end first.recorded (recursion_from_All HasNoEnd first.recorded first.of.0)) first.of.1.0 first.of.1.1)
+    first.shows first.are span turns text end r
+
+pub records_are_readable : LinesSayEvents → RecordsAreReadable
+records_are_readable says n older s es day own hands octets c record_of held holds lines first =
+    let t : Title = record_of.title in
+    let script : IsScript held n.peers (told_of own) (script_of c.closed) = of_record held n t record_of.is_title n.peers (told_of own) c record_of.part holds in
+    first_readable says n older s es day own hands held t record_of.is_title first.recorded first.shown lines
+    (first_items says n older s es day own hands held t record_of.is_title (script_of c.closed) script first.recorded (lines_have_no_end first.recorded (recursion_from_All HasNoEnd first.recorded first.of.0)) first.of.1.0 first.of.1.1)
+    first.shows first.are octets
 
 pub whole_records_are_replayed : LinesSayEvents → WholeRecordsAreReplayed
 whole_records_are_replayed says n older s es day own hands why ended c record_of held holds lines first span turns text end r =

@@ -1,5 +1,5 @@
 -- The record of a day: the files of its run, and the lines of its script.
-use Rattle.std.specs.Prelude.{◌≡◌, ◌⊎◌, ℕ, ◌-◌, cond, codes, drop, length, List, [], ◌∷◌, ◌++◌, Bool, Option, Some}
+use Rattle.std.specs.Prelude.{◌≡◌, ◌⊎◌, ℕ, ◌-◌, cond, codes, drop, length, List, [], ◌∷◌, ◌++◌, Bool, Option, Some, None}
 use Rattle.std.specs.List.{AllByRecursion, flat_map}
 use Rattle.std.specs.Str.{bytes_eq}
 use Rattle.std.specs.Str.Lines.{strip_carriage_return}
@@ -8,6 +8,7 @@ use Rattle.dom_edge.specs.Moments.{IsMomentText}
 use Rattle.dom_edge.specs.Stores.{Files}
 use Rattle.plant_text.specs.Reads.{Reads}
 use Rattle.plant_text.specs.Lines.{line_in}
+use Rattle.plant_text.specs.declared.line.LineEvent.{LineEvent}
 use Rattle.plant_text.specs.declared.line.LineEvent.TheVariants.{CertifyOn, DiscloseOn}
 use Rattle.plant_text.specs.declared.settings.NetworkParts.{NetworkParts}
 use Rattle.event_tape.specs.declared.tape.TapeEnd.{TapeEnd}
@@ -15,6 +16,7 @@ use Rattle.event_tape.specs.declared.told.Told.{Told}
 use Rattle.plant_record.specs.Books.{File}
 use Rattle.plant_record.specs.Parts.{Title}
 use Rattle.plant_record.specs.Recording.{IsPart, IsWhole}
+use Rattle.client_laws.specs.plant_play.Cues.{file_name}
 use Rattle.client_laws.specs.plant_play.Replays.{AreAllOf, AreFirstOf, HasNoEnd}
 
 -- ---- the script of a folder
@@ -54,6 +56,22 @@ pub record IsWholeRecord (n : NetworkParts) (told : List Told) (c : Contents) : 
 -- a store has each of these files as it was closed
 abbrev pub HoldsAll : Files → List File → Type 0
 HoldsAll held files = AllByRecursion (λ (f : File). held f.0 ≡ Some f.1) files
+
+-- the file of that name, where one is named, is there
+abbrev pub IsThere : Files → Option (List ℕ) → Type 0
+IsThere held None = Unit {0}
+IsThere held (Some name) = (text : List ℕ) × (held name ≡ Some text)
+
+-- what an event of a line names is there; a comment names nothing
+abbrev pub HasAll : Files → Option LineEvent → Type 0
+HasAll held None = Unit {0}
+HasAll held (Some e) = IsThere held (file_name e)
+
+-- a line has the form that lines of scripts have, and the file that it names is there
+pub record IsReadable (n : NetworkParts) (held : Files) (line : List ℕ) : Type 0 where
+  pub said : Option LineEvent
+  pub says : line_in n (strip_carriage_return line) ≡ Some said
+  pub has : HasAll held said
 
 -- `certify on` or `disclose on`
 abbrev pub ShowsMore : NetworkParts → List ℕ → Type 0

@@ -1,5 +1,6 @@
 -- Lines of a record that are played say what the day said of which they are the record.
 use Rattle.std.specs.Prelude.{◌≡◌, ℕ, List, [], ◌++◌, map, Option, Some}
+use Rattle.std.specs.List.{AllByRecursion}
 use Rattle.dom_edge.specs.Folders.{Contents}
 use Rattle.dom_edge.specs.Stores.{Files}
 use Rattle.plant_text.specs.declared.settings.NetworkParts.{NetworkParts}
@@ -23,8 +24,8 @@ use Rattle.client_laws.specs.plant_play.Playing.{PlayedNetwork}
 use Rattle.client_laws.specs.plant_play.Replays.{Replaying}
 use Rattle.client_laws.specs.plant_play.Turns.{Turn, entries_of}
 use Rattle.client_laws.specs.plant_play.declared.replaying.Span.{Span}
-use Rattle.record_laws.specs.Days.{AreHandsOf, IsDay, events_by}
-use Rattle.record_laws.specs.Records.{AreAllLines, AreFirstLines, HoldsAll, IsRecord, IsWholeRecord}
+use Rattle.record_laws.specs.Days.{AreHandsOf, HasOctets, IsDay, events_by}
+use Rattle.record_laws.specs.Records.{AreAllLines, AreFirstLines, HoldsAll, IsReadable, IsRecord, IsWholeRecord}
 
 -- The turns of the day are those of a run behind the older one. The play `fs`, which ends in `t`, accepted each event. It is event by
 -- event, with answers and deeds, what is told of that run at a moment of it, and said to everybody what the day had said by then. And all
@@ -36,6 +37,12 @@ pub record IsReplayed (n : NetworkParts) (older : List Entry) (s : Kept) (es : L
   pub accepted : AreAccepted fs
   pub plays : IsPlayAtMoment n (newer ++ older) fs t
   pub right : IsRight n fs t
+
+-- The lines of a record are lines of a script, and the files that they name are there, where octets came with each receipt.
+abbrev pub RecordsAreReadable : Type 0
+RecordsAreReadable =
+    (n : NetworkParts) (older : List Entry) (s : Kept) (es : List (KeptAct × KeptAnswer)) → IsDay n older s es → (own : List Handed) → AreHandsOf s es own → AllByRecursion HasOctets (told_of own) →
+    (c : Contents) → IsRecord n (told_of own) c → (held : Files) → HoldsAll held c.closed → (lines : List (List ℕ)) → AreFirstLines n c lines → AllByRecursion (IsReadable n held) lines
 
 -- Where the first lines of a record, however many, are played on a new network of its settings, beside the files that it has.
 abbrev pub RecordsAreReplayed : Type 0

@@ -1,6 +1,6 @@
 //! Laws of a record.
 ghost use Rattle.record_laws.specs.Days.{HandsAreSaid};
-ghost use Rattle.record_laws.specs.Replayed.{RecordsAreReplayed, WholeRecordsAreReplayed};
+ghost use Rattle.record_laws.specs.Replayed.{RecordsAreReadable, RecordsAreReplayed, WholeRecordsAreReplayed};
 
 use event_lines::lines_say_events;
 
@@ -9,6 +9,14 @@ use event_lines::lines_say_events;
 pub fn hands_are_said()
     ensures { HandsAreSaid }
 {}
+
+/// The lines of a record have the form of lines of scripts, and the topologies that they name are there, where octets came with each
+/// receipt of octets: so a play of it ends at no line.
+pub fn records_are_readable()
+    ensures { RecordsAreReadable }
+{
+    lines_say_events();
+}
 
 /// Where the first lines of a record, however many, are played on a new network of its settings beside the files that it has, each event
 /// is accepted, and the play says to everybody what the day had said at some moment: the same answers and deeds, event by event, and the

@@ -4,4 +4,6 @@
 
 mod laws;
 
-pub use laws::{hands_are_said, records_are_replayed, whole_records_are_replayed};
+pub use laws::{
+    hands_are_said, records_are_readable, records_are_replayed, whole_records_are_replayed,
+};
