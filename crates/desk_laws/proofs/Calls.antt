@@ -1,5 +1,5 @@
 -- The calls of a desk as events of the run.
-use Rattle.std.proofs.Common.{◌≡◌, ◌∙◌, ◌&&◌, ◌==◌, ℕ, Bool, true, false, cond, eq-eqb, List, [], ◌∷◌, ◌++◌, append-nil, append_assoc, filter, Option, Some, None, Ok, Err, ap, refl, sym, subst}
+use Rattle.std.proofs.Common.{◌≡◌, ◌∙◌, ◌&&◌, ℕ, Bool, true, false, cond, eq-eqb, List, [], ◌∷◌, ◌++◌, append-nil, append_assoc, Some, Ok, Err, ap, refl, sym}
 use Rattle.std.specs.List.{AllByRecursion, cons_option, filter_map}
 use Rattle.plant_network.specs.plant_model.declared.event.Event.{Event}
 use Rattle.plant_network.specs.plant_model.declared.event.Event.TheVariants as event
@@ -11,13 +11,13 @@ use Rattle.plant_network.specs.Histories.{event_of, events_of}
 use Rattle.plant_network.specs.Jobs.{told}
 use Rattle.plant_network.specs.Turns.{solve_of}
 use Rattle.plant_network.specs.declared.acts.Act.{Act}
-use Rattle.plant_network.specs.declared.acts.Act.TheVariants.{Do, Finish, Look, Map, Ready}
+use Rattle.plant_network.specs.declared.acts.Act.TheVariants.{Do, Finish}
 use Rattle.plant_network.specs.network_links.declared.rest.Rest.{Rest}
 use Rattle.plant_network.specs.declared.acts.Acted.{Acted}
-use Rattle.plant_network.specs.declared.acts.Acted.TheVariants.{Committed, Did, Found, Looked, Mapped}
+use Rattle.plant_network.specs.declared.acts.Acted.TheVariants.{Committed, Did}
 use Rattle.plant_network.specs.declared.acts.ActAnswer.{ActAnswer}
-use Rattle.run_laws.specs.Outlets.{ConnectionChange, Drains, Opens, Stays, handed_in, turn_for}
-use Rattle.server_loops.specs.Desks.{Answer, Call, call}
+use Rattle.run_laws.specs.Outlets.{Drains, Opens, Stays, handed_in}
+use Rattle.server_loops.specs.Desks.{Answer, Call}
 use Rattle.server_loops.specs.Sessions.{drained, drained_by}
 use Rattle.server_loops.specs.declared.desks.DeskRefused.TheVariants.{Plant, Spent}
 use Rattle.turn_desk.specs.Desks.{desk_call}

@@ -13,12 +13,12 @@ use Rattle.plant_network.specs.plant_model.Blind.{Drained as Took, Heard, Messag
 use Rattle.plant_network.specs.plant_model.Events as events
 use Rattle.plant_network.specs.plant_model.Plant.{Entry, Happened, Pin, Plant, PlantDeed, Run, Segment, Steps, deeds_of}
 use Rattle.plant_network.specs.plant_model.RealWire.{wire}
-use Rattle.plant_network.specs.plant_model.State.{Clears, Connection, Deed, Downs, Expires, Hands, Loads, Pops, Says, Solves, Takes, Ups, sent_by}
+use Rattle.plant_network.specs.plant_model.State.{Clears, Connection, Downs, Expires, Hands, Loads, Pops, Says, Solves, Takes, Ups, sent_by}
 use Rattle.plant_network.specs.plant_laws.Worlds.{DisclosedRun}
 use Rattle.run_laws.specs.Outlets.{ConnectionChange, Drains, Opens, Outlet, Shuts, Stays, handed_in, messages_for, outlet, outputs_of, put_for, turn_for, turned}
 use Rattle.run_laws.proofs.plant_laws.Blind.SaysBlind.{says_as_blind}
 use Rattle.run_laws.proofs.plant_laws.Runs.Refused.{refused_same}
-use Rattle.desk_laws.specs.Closed.{EndsBlindly, PutIsSaidBlindly, heard_by}
+use Rattle.desk_laws.specs.Closed.{PutIsSaidBlindly, heard_by}
 use Rattle.desk_laws.proofs.Streams.{run_at}
 
 -- ---- what is heard is what is put

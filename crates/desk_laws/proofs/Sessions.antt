@@ -1,5 +1,5 @@
 -- A session is an Open, calls that drain its peer or leave the connections, and at its end calls that hand out nothing.
-use Rattle.std.proofs.Common.{◌≡◌, ◌∙◌, ◌⊎◌, inl, inr, ◌<◌, ℕ, Bool, length, List, [], ◌∷◌, ◌++◌, append-nil, append_assoc, Ok, Err, ap, refl, sym, subst}
+use Rattle.std.proofs.Common.{◌≡◌, ◌∙◌, ◌⊎◌, inl, inr, ℕ, Bool, length, List, [], ◌∷◌, ◌++◌, append_assoc, Ok, ap, refl, sym, subst}
 use Rattle.std.specs.List.{AllByRecursion}
 use Rattle.dom_edge.specs.Heeding.{Sides}
 use Rattle.dom_edge.specs.Streams.{Writing}
@@ -11,7 +11,7 @@ use Rattle.plant_network.specs.plant_model.declared.outcome.Refused.{Refused}
 use Rattle.plant_network.specs.plant_model.declared.outcome.Refused.TheVariants.{NoMemory as NoRoom, NoSuchPeer}
 use Rattle.server_loops.specs.Desks.{Call, call}
 use Rattle.plant_network.specs.network_links.declared.rest.Rest.TheVariants.{Messages}
-use Rattle.server_loops.specs.Sessions.{AreTakes, AreTurns, EndsTakes, IsDrained, IsFed, IsLastTake, IsRefused, IsSession, IsShut, IsTake, IsTurn, IsUnopened, Last, Makes, Runs, StopsAt, drained, drained_by, joined, refused}
+use Rattle.server_loops.specs.Sessions.{AreTakes, AreTurns, EndsTakes, IsDrained, IsFed, IsLastTake, IsRefused, IsSession, IsShut, IsTake, IsTurn, IsUnopened, Last, Makes, Runs, StopsAt, drained, drained_by, joined}
 use Rattle.server_loops.specs.declared.sessions.Ended.{Ended}
 use Rattle.server_loops.specs.declared.sessions.Ended.TheVariants.{Closed, Lost, NoMemory, NotOpened, PeerEnd, ReadFault, Spent, Turns, WriteFault}
 use Rattle.server_loops.proofs.Turning.{all_on}

@@ -1,9 +1,8 @@
 -- What a session writes is a first part of what the run put for its peer.
-use Rattle.std.proofs.Common.{◌≡◌, ◌≢◌, ◌∙◌, ◌⊎◌, ◌&&◌, ◌==◌, inl, inr, ℕ, Bool, true, false, cond, eq-eqb, List, [], ◌∷◌, ◌++◌, append-nil, append_assoc, drop, map, take, option_map, Option, Some, None, Ok, ap, refl, sym, subst}
+use Rattle.std.proofs.Common.{◌≡◌, ◌≢◌, ◌∙◌, ◌⊎◌, ◌&&◌, ◌==◌, inl, inr, ℕ, Bool, true, false, cond, eq-eqb, List, [], ◌∷◌, ◌++◌, append-nil, append_assoc, drop, map, take, Option, Some, None, Ok, ap, refl, sym, subst}
 use Rattle.std.specs.Io.KnownBytes.{Appends}
 use Rattle.std.proofs.lemmas.Bool.{eqb-true}
 use Rattle.std.proofs.lemmas.List.{append_cancel_left, map-append, take-append-drop}
-use Rattle.dom_edge.specs.Heeding.{Sides}
 use Rattle.dom_edge.specs.Streams.{Writing}
 use Rattle.dom_edge.specs.Whole.{AppendsSome}
 use Rattle.pcep_framing.specs.Frames as frames
@@ -16,12 +15,12 @@ use Rattle.plant_network.specs.plant_model.RealWire.{wire}
 use Rattle.plant_network.specs.plant_model.State.{Connection}
 use Rattle.plant_network.specs.plant_model.Types.{NetworkParts}
 use Rattle.plant_network.specs.Histories.{done_by, events_of}
-use Rattle.run_laws.specs.Outlets.{AreOne, ConnectionChange, Drains, IsHandedOut, Opens, Outlet, Shuts, Stands, Stays, bytes_of, handed_in, messages_for, outlet, turn_for, turned}
+use Rattle.run_laws.specs.Outlets.{AreOne, ConnectionChange, Drains, IsHandedOut, Opens, Outlet, Shuts, Stays, bytes_of, handed_in, messages_for, outlet, turn_for, turned}
 use Rattle.run_laws.proofs.PeerLemmas.Answering.{answers_are_right}
 use Rattle.run_laws.proofs.PeerLemmas.OutletRuns.{drains_hand_out_all, outlets_stand}
 use Rattle.run_laws.proofs.PeerLemmas.Reading.{handed_is_read}
 use Rattle.server_loops.specs.Desks.{Call, call}
-use Rattle.server_loops.specs.Sessions.{OverLink, Writes, drained}
+use Rattle.server_loops.specs.Sessions.{Writes, drained}
 use Rattle.server_loops.specs.declared.sessions.Ended.{Ended}
 use Rattle.server_loops.specs.declared.sessions.Ended.TheVariants.{Closed, Lost, NoMemory, NotOpened, PeerEnd, ReadFault, Spent, Turns, WriteFault}
 use Rattle.turn_desk.specs.Desks.{Stand, desked_of}
@@ -95,7 +94,7 @@ module _ (n : NetworkParts) (i : ℕ) where
     by_turn (Opens holder) is drains used = (
       record { holder = holder; put = messages_for i e.deeds; handed = [] },
       ap (λ (b : Bool). cond b (turned (turn_for i e.event) (messages_for i e.deeds) (handed_in e.answer) (outlet i older)) (outlet i older)) accepted
-      ∙ ap (λ (c : ConnectionChange). turned c (messages_for i e.deeds) (handed_in e.answer) (outlet i older)) is,
+          ∙ ap (λ (c : ConnectionChange). turned c (messages_for i e.deeds) (handed_in e.answer) (outlet i older)) is,
     )
     by_turn Drains is drains used = drains 0 refl
     by_turn Shuts is drains used = absurd (let no : ⊥ = cc in no)
@@ -181,7 +180,7 @@ module _ (n : NetworkParts) (newer older : List Entry) (t : Plant) (run : Run wi
         let all : newer ++ older ≡ cut.0 ++ moment = ap (λ (es : List Entry). es ++ older) cut.2 ∙ append_assoc cut.0 cut.1 older in
         let at = run_at wire n cut.0 moment t (subst (λ (es : List Entry). Run wire n es t) all run) in
         let used : at_peer i (top.0 ∷ last.1) ≡ at_peer i (call_events first) =
-            ap (λ (b : Bool). cond b (top.0 ∷ at_peer i last.1) (at_peer i last.1)) last.3 ∙ ap (λ (es : Events). top.0 ∷ es) last.4 ∙ sym (opened_first ∙ top.2) in
+        ap (λ (b : Bool). cond b (top.0 ∷ at_peer i last.1) (at_peer i last.1)) last.3 ∙ ap (λ (es : Events). top.0 ∷ es) last.4 ∙ sym (opened_first ∙ top.2) in
         let done : at_peer i (map done_by moment) ≡ at_peer i (call_events first) =
         ap (at_peer i) (map-append done_by cut.1 older) ∙ filter_on (is_at i) (map done_by cut.1) (map done_by older) ∙ ap (λ (es : Events). at_peer i es ++ at_peer i (map done_by older)) cut.3
         ∙ ap (λ (es : Events). es ++ at_peer i (map done_by older)) used ∙ ap (λ (es : Events). at_peer i (call_events first) ++ es) quiet ∙ append-nil (at_peer i (call_events first)) in

@@ -1,11 +1,11 @@
 -- The line of an event is a line, and says the event.
-use Rattle.std.proofs.Common.{◌≡◌, ◌≢◌, ℕ, ◌+◌, ◌-◌, ◌^◌, ◌<◌, Bool, true, false, not, ◌&&◌, cond, codes, List, [], ◌∷◌, ◌++◌, length, Option, Some, None, refl, sym, ap, ◌∙◌, arith, slice_index, ◌==◌}
+use Rattle.std.proofs.Common.{◌≡◌, ◌≢◌, ℕ, ◌-◌, ◌^◌, ◌<◌, Bool, true, false, not, cond, codes, List, [], ◌∷◌, length, Option, Some, None, refl, sym, ap, ◌∙◌, arith, slice_index, ◌==◌}
 use Rattle.std.specs.Fmt.{decimal}
 use Rattle.std.specs.List.{AllByRecursion}
 use Rattle.dom_base.specs.declared.names.As.{As}
 use Rattle.dom_base.specs.Steps.{◌>>=◌}
 use Rattle.dom_base.proofs.NumeralLaws.{number_again}
-use Rattle.line_text.specs.Hexadecimal.{hex_text, is_blank}
+use Rattle.line_text.specs.Hexadecimal.{hex_text}
 use Rattle.line_text.specs.Spelling.{joined, IsLine, IsWord}
 use Rattle.line_text.specs.Lines.{is_skipped}
 use Rattle.line_text.specs.Words.{all_words, is_trimmed, words_of, is_blank as is_space}
@@ -19,8 +19,8 @@ use Rattle.plant_text.specs.Lines.{as_in, behind, both, event_in, file_in, hex_i
 use Rattle.plant_text.specs.Rules.{rules_of}
 use Rattle.event_tape.specs.declared.told.Told.{Told}
 use Rattle.event_tape.specs.declared.told.Told.TheVariants.{Load, Open, Shut, Receive, Take, Carry, Break, Solve, Tick, Drain}
-use Rattle.event_lines.specs.EventLines.{event_words, line_of, load_name, peer_name, IsOf, SaysEvent, LinesSayEvents}
-use Rattle.event_lines.proofs.Peers.{is_peer, IsPeer}
+use Rattle.event_lines.specs.EventLines.{event_words, line_of, load_name, peer_name, IsOf, LinesSayEvents}
+use Rattle.event_lines.proofs.Peers.{is_peer}
 use Rattle.event_lines.proofs.Words.{decimal_word, hex_again, hex_printed, hex_word, named_utf8, named_word, no_gap}
 
 -- ---- words that are read again

@@ -1,25 +1,22 @@
 -- Names of peers: words, each of which is found at its own row.
 use Rattle.std.proofs.Common.{◌≡◌, ◌≢◌, ℕ, zero, suc, ◌+◌, ◌<◌, Bool, true, false, not, ◌&&◌, ◌||◌, nat_le, nat_lt, codes, All, AllPairs, List, [], ◌∷◌, ◌++◌, length, get_or, position, slice_get, Option, Some, None, refl, ap, ◌∙◌, sym, arith, inl, inr}
 use Rattle.std.proofs.lemmas.Bool.{cases_Bool, and_parts, lt-ltb}
-use Rattle.std.proofs.lemmas.Bool.Decides.{nat_tests, not_from_Decides}
+use Rattle.std.proofs.lemmas.Bool.Decides.{nat_tests}
 use Rattle.std.proofs.lemmas.List.Elements.{All-nil, All-cons, All-get_or}
 use Rattle.std.proofs.lemmas.List.Sums.{position_or_len_is}
-use Rattle.std.proofs.lemmas.Option.{slice_get-get_or}
 use Rattle.std.proofs.lemmas.Slice.Eq.{bytes_eq-Decides}
 use Rattle.std.specs.List.{AllByRecursion, list_all, position_or_len}
 use Rattle.std.specs.Str.{bytes_eq}
 use Rattle.line_text.specs.Spelling.{IsWord}
 use Rattle.plant_text.specs.declared.fault.Breach.{Breach}
 use Rattle.plant_text.specs.declared.fault.Breach.TheVariants.{TooMany, Shape, Duplicate, Unknown}
-use Rattle.plant_text.specs.declared.fault.NetFault.{NetFault}
 use Rattle.plant_text.specs.declared.settings.NetworkParts.{NetworkParts}
 use Rattle.plant_text.specs.declared.settings.PeerRow.{PeerRow}
 use Rattle.plant_text.specs.Faults.{AreObeyed, first_of}
-use Rattle.plant_text.specs.Laws.{AreSettings}
 use Rattle.plant_text.specs.Lines.{peer_in}
 use Rattle.plant_text.specs.Settings.{is_element}
 use Rattle.plant_text.specs.Rules.{Rules, at_row, is_digit, is_letter, is_class, is_name, leads_out, peer_form, peer_rules, repeats_peer, rows_from, rules_of, sheet_of, told}
-use Rattle.plant_text.proofs.RuleLaws.{first_at_row, none_front, none_back, none_of}
+use Rattle.plant_text.proofs.RuleLaws.{none_front, none_back, none_of}
 use Rattle.plant_text.proofs.SettingLaws.{rules_are_worth}
 use Rattle.plant_text.proofs.SheetLaws.{all_clear}
 use Rattle.event_lines.specs.EventLines.{peer_name}

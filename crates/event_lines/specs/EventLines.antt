@@ -1,5 +1,5 @@
 -- The lines of told events, as a script has them, and the events that these lines say.
-use Rattle.std.specs.Prelude.{◌≡◌, ℕ, ◌+◌, ◌^◌, ◌<◌, List, [], ◌∷◌, ◌++◌, length, codes, decimal, slice_get, Option, Some, None}
+use Rattle.std.specs.Prelude.{◌≡◌, ℕ, ◌^◌, ◌<◌, List, [], ◌∷◌, ◌++◌, length, codes, decimal, slice_get, Option, Some, None}
 use Rattle.std.specs.List.{AllByRecursion}
 use Rattle.line_text.specs.Hexadecimal.{hex_text}
 use Rattle.line_text.specs.Spelling.{joined, line_text, IsLine}
@@ -43,6 +43,19 @@ abbrev pub event_line : List PeerRow → ℕ → Told → List ℕ
 event_line peers k e = line_text (event_words peers k e)
 
 -- ---- what a line says
+
+-- what the types of an event say: its numbers are of their kinds, and what came are octets
+abbrev pub IsInRange : Told → Type 0
+IsInRange (Load d g) = d.0 < 2 ^ 16
+IsInRange (Open p h) = h < 2 ^ 32
+IsInRange (Shut p) = Unit {0}
+IsInRange (Receive p octets) = AllByRecursion (λ b. b < 256) octets
+IsInRange (Take p) = Unit {0}
+IsInRange (Carry a b) = (a.0 < 2 ^ 16) × (b.0 < 2 ^ 16)
+IsInRange (Break a b) = (a.0 < 2 ^ 16) × (b.0 < 2 ^ 16)
+IsInRange (Solve d k) = (d.0 < 2 ^ 16) × (k < 2 ^ 64)
+IsInRange (Tick t) = t.0 < 2 ^ 64
+IsInRange (Drain p h) = h < 2 ^ 32
 
 -- an event of a network: its peer is one of the settings, some octets came, and its numbers are of their types
 abbrev pub IsOf : NetworkParts → Told → Type 0

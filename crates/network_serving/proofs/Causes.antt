@@ -34,6 +34,8 @@ module _ (files : Option Files) (name : List ℕ) (limit : ℕ) (IsFault : List 
   bad_text bytes counts failed_at (served.BadNetwork file line fault) has bad = (bad.0, in_file files name bytes (λ bs. IsFault bs line fault) has bad.1)
   bad_text bytes counts failed_at served.NoMemory has bad = tt
   bad_text bytes counts failed_at served.Turns has bad = absurd bad
+  bad_text bytes counts failed_at served.Stopped has bad = absurd bad
+  bad_text bytes counts failed_at (served.NoRecord place) has bad = absurd bad
   bad_text bytes counts failed_at served.ReadFault has bad = absurd bad
   bad_text bytes counts failed_at (served.TooLarge file) has bad = absurd bad
   bad_text bytes counts failed_at (served.NoPort port) has bad = absurd bad
@@ -45,6 +47,8 @@ module _ (files : Option Files) (name : List ℕ) (limit : ℕ) (IsFault : List 
       (bad.0, in_file files name bytes (λ bs. IsFault bs at other) has (subst (λ (f : NetFault). IsFault bytes at f) (sym bad.2) (subst (λ (n : ℕ). IsFault bytes n fault) (sym bad.1) is)))
   bad_line bytes counts failed_at line fault served.NoMemory has is bad = tt
   bad_line bytes counts failed_at line fault served.Turns has is bad = absurd bad
+  bad_line bytes counts failed_at line fault served.Stopped has is bad = absurd bad
+  bad_line bytes counts failed_at line fault (served.NoRecord place) has is bad = absurd bad
   bad_line bytes counts failed_at line fault served.ReadFault has is bad = absurd bad
   bad_line bytes counts failed_at line fault (served.TooLarge file) has is bad = absurd bad
   bad_line bytes counts failed_at line fault (served.NoPort port) has is bad = absurd bad
@@ -57,6 +61,8 @@ module _ (files : Option Files) (name : List ℕ) (limit : ℕ) (IsFault : List 
   not_read counts failed_at (served.BadNetwork file line fault) is = (is.0, not_in_file files name (λ bs. IsFault bs line fault) is.1)
   not_read counts failed_at served.NoMemory is = tt
   not_read counts failed_at served.Turns is = absurd is
+  not_read counts failed_at served.Stopped is = absurd is
+  not_read counts failed_at (served.NoRecord place) is = absurd is
   not_read counts failed_at (served.NoPort port) is = absurd is
   not_read counts failed_at served.NoThread is = absurd is
 
@@ -67,6 +73,8 @@ module _ (files : Option Files) (name : List ℕ) (limit : ℕ) (IsFault : List 
   file_from a b c failed_at (served.BadNetwork file line fault) less is = is
   file_from a b c failed_at served.NoMemory less is = tt
   file_from a b c failed_at served.Turns less is = absurd is
+  file_from a b c failed_at served.Stopped less is = absurd is
+  file_from a b c failed_at (served.NoRecord place) less is = absurd is
   file_from a b c failed_at (served.NoPort port) less is = absurd is
   file_from a b c failed_at served.NoThread less is = absurd is
 

@@ -16,6 +16,8 @@ use Rattle.lru.proofs.entry.Deed.TheSendSync as entry
 use Rattle.cost_cache.specs.contracts.key.Key as Key
 use Rattle.cost_cache.specs.contracts.kept.Kept as Kept
 use Rattle.cost_cache.specs.contracts.cache.Cache as Cache
+use Rattle.dom_edge.specs.declared.sink.Sink.{Ghosts as SinkGhosts}
+use Rattle.plant_record.specs.contracts.script.Script as Script
 use Rattle.plant_text.specs.contracts.network.Network as Network
 use Rattle.ted_watch.specs.contracts.board.Board as Board
 use Rattle.ted_watch.specs.contracts.board.Entry as Entry
@@ -51,3 +53,6 @@ watcher_send = search (board_send, board_sync, seen.the_send, part.the_send, par
 
 pub publisher_send : (R : RattleType) → IsSend R → IsSend (Publisher.the_field R).row
 publisher_send R r = search (board_send, board_sync, entry_send, word.the_send, seen.the_send, part.the_send, part.the_sync, deed.the_send, seat.the_send, shared.the_send, shared.the_sync, lease.the_send, lease.the_sync, sendable, crosses) depth 60 fits 30000
+
+pub script_send : (F : RattleType) (s : SinkGhosts F.Denot) → IsSend F → IsSend (Script.the_field F s).row
+script_send F s f = search (sendable, crosses) depth 60 fits 30000

@@ -1,5 +1,5 @@
 -- What is handed out at a seat, and what a record is told of it.
-use Rattle.std.proofs.Common.{inl, inr, ◌≡◌, ◌∙◌, ℕ, List, [], ◌∷◌, ◌++◌, Option, Some, None, Ok, Err, ap, append-nil, append_assoc, refl, subst, sym}
+use Rattle.std.proofs.Common.{inl, inr, ◌≡◌, ◌∙◌, ◌⊎◌, ℕ, List, [], ◌∷◌, ◌++◌, Option, Some, None, Ok, Err, ap, append-nil, append_assoc, refl, subst, sym}
 use Rattle.std.specs.declared.result.Result.{Result}
 use Rattle.std.proofs.lemmas.List.Elements.{filter_map-append}
 use Rattle.plant_text.specs.declared.settings.ElementRow.{ElementRow}
@@ -21,7 +21,7 @@ use Rattle.plant_record.specs.Recording.{HasCause, Records}
 use Rattle.plant_record.specs.declared.recorded.Recorded.{Recorded}
 use Rattle.plant_record.specs.declared.recorded.Recorded.TheVariants as recorded
 use Rattle.turn_desk.specs.Seats.{IsHand, IsStop, Seated}
-use Rattle.network_serving.specs.Records.{AreFirst, IsFirst, IsNoRecord, IsPushedFirst, hands_at}
+use Rattle.network_serving.specs.Records.{AreFirst, IsFirst, IsLeft, IsNoRecord, IsPushedFirst, hands_at}
 use Rattle.network_serving.specs.declared.served.Served.{Served}
 use Rattle.network_serving.specs.declared.served.Served.TheVariants as served
 
@@ -38,6 +38,18 @@ hand_goes old new empty (Err t) k = (ap hands_in k.own, k.spent)
 pub stop_stays : (old new : Seated) (r : Result (Unit {0}) ℕ) → IsStop r old new → (hands_at new).hands ≡ (hands_at old).hands
 stop_stays old new (Ok done) e = entry_more old.own new.own (Stop, Stopped) e.own ∙ append-nil (hands_in old.own)
 stop_stays old new (Err t) k = ap hands_in k.own
+
+stop_last : (old new : Seated) (r : Result (Unit {0}) ℕ) → IsStop r old new → ((front : List (KeptAct × KeptAnswer)) × (new.own ≡ front ++ (Stop, Stopped) ∷ [])) ⊎ ((number : ℕ) × (new.spent ≡ Some number))
+stop_last old new (Ok done) e = inl (old.own, e.own)
+stop_last old new (Err number) k = inr (number, k.spent)
+
+-- behind it the tape takes nothing more
+pub stop_left : (old new : Seated) (r : Result (Unit {0}) ℕ) (end : Recorded) → IsStop r old new → IsLeft end new
+stop_left old new r (recorded.Ended why) is = tt
+stop_left old new r recorded.Turns is = stop_last old new r is
+stop_left old new r (recorded.Spent number) is = stop_last old new r is
+stop_left old new r recorded.Lost is = stop_last old new r is
+stop_left old new r (recorded.Fault why) is = stop_last old new r is
 
 -- a desk that is spent stays so
 pub stop_spent : (old new : Seated) (r : Result (Unit {0}) ℕ) → IsStop r old new → (t : ℕ) → old.spent ≡ Some t → new.spent ≡ Some t

@@ -39,6 +39,8 @@ module _ (name : List ℕ) (n : NetworkParts) where
   told fault (served.BadNetwork file line other) is bad = (bad.0, bad.1.0, subst (IsPortFault n) (sym bad.1.1) is)
   told fault served.NoMemory is bad = tt
   told fault served.Turns is bad = absurd bad
+  told fault served.Stopped is bad = absurd bad
+  told fault (served.NoRecord place) is bad = absurd bad
   told fault served.ReadFault is bad = absurd bad
   told fault (served.TooLarge file) is bad = absurd bad
   told fault (served.NoPort port) is bad = absurd bad

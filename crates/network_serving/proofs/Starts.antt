@@ -126,6 +126,12 @@ want_unstarted faults s is = subst (IsUnstarted faults) (sym is) tt
 pub want_start : (ports : List ℕ) (x : Called) (faults : ℕ × ℕ) (s : Served) → s ≡ served.NoMemory → IsStartEnd ports x faults s
 want_start ports x faults s is = subst (IsStartEnd ports x faults) (sym is) tt
 
+-- ---- desks
+
+-- behind the first tasks and a record there are still two desks: that of the operator, and that from which it is split
+pub still_two : (all first mid last : ℕ) → all ≡ first + 3 → mid + first ≡ all → mid ≤ last + 1 → 1 < last
+still_two all first mid last are left less = omega (arith, are, left, less)
+
 -- ---- duties
 
 pub duties_on : (n : NetworkParts) (old all with last : List Duty) → all ≡ old ++ first_duties n → with ≡ all ++ Operate ∷ [] → last ≡ with ++ watch_duties n.watch → last ≡ old ++ duties_of n

@@ -10,11 +10,17 @@ use Rattle.plant_network.specs.plant_model.declared.event.Event.TheVariants.{Loa
 use Rattle.plant_network.specs.Topologies.{whole}
 use Rattle.plant_network.specs.Whole.{Whole}
 use Rattle.kept_plant.specs.Handing.{hands_in}
+use Rattle.kept_plant.specs.declared.acts.KeptAct.{KeptAct}
+use Rattle.kept_plant.specs.declared.acts.KeptAct.TheVariants.{Stop}
+use Rattle.kept_plant.specs.declared.acts.KeptAnswer.{KeptAnswer}
+use Rattle.kept_plant.specs.declared.acts.KeptAnswer.TheVariants.{Stopped as StoppedSo}
 use Rattle.kept_plant.specs.declared.kept.KeptPlant.{KeptPlant}
 use Rattle.plant_record.specs.Hands.{Hands}
 use Rattle.plant_record.specs.Parts.{Title}
 use Rattle.plant_record.specs.Recording.{Leaves, Records}
 use Rattle.plant_record.specs.Standing.{Stands}
+use Rattle.plant_record.specs.declared.recorded.Recorded.{Recorded}
+use Rattle.plant_record.specs.declared.recorded.Recorded.TheVariants.{Ended}
 use Rattle.plant_text.specs.declared.settings.ElementRow.{ElementRow}
 use Rattle.plant_text.specs.declared.settings.NetworkParts.{NetworkParts}
 use Rattle.turn_desk.specs.Desks.{stand_of}
@@ -33,7 +39,7 @@ is_asked (Some x) = true
 is_asked None = false
 
 -- how often its folder has failed, where one is asked for
-abbrev pub faults_in : {G M E : Type 0} → (G → ℕ) → Option (Recording G M E) → ℕ
+abbrev pub faults_in : {F G M E : Type 0} → (G → ℕ) → Option (Recording G M E F) → ℕ
 faults_in faults (Some r) = faults r.folder
 faults_in faults None = 0
 
@@ -83,18 +89,24 @@ abbrev pub hands_at : Seated → Hands
 hands_at s = record { hands = hands_in s.own; spent = s.spent }
 
 -- what it stands on, where there is one
-abbrev pub desks_in : {F G M E R : Type 0} → Option (Recorder F G M E R) → List Base
+abbrev pub desks_in : {F G M E R : Type 0} → Option (Recorder G M E R F) → List Base
 desks_in None = []
 desks_in (Some x) = Desk (stand_of x.seat.desk) ∷ []
 
 -- ---- what was written
 
--- What was handed out in these turns stands in the files, behind what stood there, as a record says it.
-abbrev pub Writes : {F G M E R : Type 0} → (F → ℕ) → (G → ℕ) → (F → Option (List ℕ)) → (G → Option Contents) → ℕ → Recorder F G M E R → Written G R → Type 0
+-- The tape takes nothing more: it had ended by itself, or the last that was done at the seat was to end it, or the desk is spent.
+abbrev pub IsLeft : Recorded → Seated → Type 0
+IsLeft (Ended why) s = Unit {0}
+IsLeft end s = ((front : List (KeptAct × KeptAnswer)) × (s.own ≡ front ++ (Stop, StoppedSo) ∷ [])) ⊎ ((number : ℕ) × (s.spent ≡ Some number))
+
+-- What was handed out in these turns stands in the files, behind what stood there, as a record says it; and the tape takes nothing more.
+abbrev pub Writes : {F G M E R : Type 0} → (F → ℕ) → (G → ℕ) → (F → Option (List ℕ)) → (G → Option Contents) → ℕ → Recorder G M E R F → Written G R F → Type 0
 Writes {F} {G} {M} {E} {R} file_faults faults written contents turns x y =
     Records file_faults (faults x.folder) (faults y.folder) turns x.script.events y.end (hands_at (seat_of x.seat.desk)) (hands_at (seat_of y.seat.desk))
     (λ (more : List Told). (t : Title) (before : List Told) → Stands written x.network.peers t before x.script (contents x.folder) → Leaves x.network.peers t (before ++ more) y.end (contents y.folder))
+    × IsLeft y.end (seat_of y.seat.desk)
 
 -- the same in all turns that a number of 64 bits counts
-abbrev pub WasWritten : {F G M E R : Type 0} → (F → ℕ) → (G → ℕ) → (F → Option (List ℕ)) → (G → Option Contents) → Recorder F G M E R → Written G R → Type 0
+abbrev pub WasWritten : {F G M E R : Type 0} → (F → ℕ) → (G → ℕ) → (F → Option (List ℕ)) → (G → Option Contents) → Recorder G M E R F → Written G R F → Type 0
 WasWritten file_faults faults written contents x y = Writes file_faults faults written contents (2 ^ 64 - 1) x y

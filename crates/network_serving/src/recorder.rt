@@ -3,7 +3,8 @@ ghost use Rattle.std.specs.Prelude.{◌≡◌, ℕ, Some};
 ghost use Rattle.plant_record.specs.Hands.{Goes};
 ghost use Rattle.turn_desk.specs.Desks.{IsStill, stand_of};
 ghost use Rattle.turn_desk.specs.Seats.{seat_of};
-ghost use Rattle.network_serving.specs.Records.{hands_at};
+ghost use Rattle.network_serving.specs.Bases.{Desk, base_of};
+ghost use Rattle.network_serving.specs.Records.{IsLeft, hands_at};
 
 use crate::footing::Footing;
 use crate::telling::tell_record_end;
@@ -51,6 +52,7 @@ impl<R: Wait + Clock + Drop> TapeSeat<R> {
         ensures stays { IsStill (stand_of self.old.desk) (stand_of self.new.desk) }
         ensures same { (hands_at (seat_of self.new.desk)).hands ≡ (hands_at (seat_of self.old.desk)).hands }
         ensures spent { (t : ℕ) → (seat_of self.old.desk).spent ≡ Some t → (seat_of self.new.desk).spent ≡ Some t }
+        ensures left { IsLeft end (seat_of self.new.desk) }
     {
         if !matches!(end, Recorded::Ended(_)) {
             let _stopped = self.desk.stop();
@@ -124,7 +126,9 @@ impl<G: Folder + Drop, M: Calendar + Drop, E: Sink + Drop, R: Wait + Clock + Cop
     ghost use Rattle.network_serving.specs.Records.{Writes};
 
     /// What stands behind it.
-    pub(crate) fn footing(&self) -> Footing {
+    pub(crate) fn footing(&self) -> Footing
+        ensures { base_of result ≡ Desk (stand_of self.now.seat.desk) }
+    {
         Footing::Desk(self.seat.desk.standing())
     }
 

@@ -3,6 +3,7 @@
 
 mod errors;
 mod help;
+mod meaning;
 mod patient;
 mod ports;
 mod progress;
@@ -10,6 +11,7 @@ mod server;
 mod steady;
 
 use crate::help::{HELP, asks_for_help, say_check, say_help, say_unread, say_what_is_wrong};
+use crate::meaning::{Beginning, say_meaning};
 use crate::progress::Progress;
 use crate::server::{Ended, serve_network};
 use crate::steady::Told;
@@ -52,6 +54,10 @@ fn takes_settings(verb: &str) -> bool {
         verb,
         "path" | "play" | "replay" | "blind" | "serve" | "check"
     )
+}
+
+fn asks_for_path(words: &[String]) -> bool {
+    matches!(words, [verb, ..] if verb.as_str() == "path")
 }
 
 // A file's folder and its name there; none where the name begins in the working folder.
@@ -153,11 +159,14 @@ fn run_command(rt: &HostRuntime, words: &mut [String]) -> ExitCode {
     let alloc = rt.alloc();
     let mut store = FileStore::new(alloc, *rt);
     let mut input = InputSource::new(rt.reader());
-    let mut out = Progress::new(*rt, OutputSink::new(io::writer(rt)));
+    let sink = Beginning::new(alloc, OutputSink::new(io::writer(rt)));
+    let mut out = Progress::new(*rt, sink);
     let status = run(alloc, words, &mut store, &mut input, &mut out);
     let code = end(rt, status.number(), &status);
     if status.number() != 0 {
         say_more(rt, words, typed.as_ref(), &status, store.failed_at());
+    } else if asks_for_path(words) {
+        say_meaning(rt, out.sink().text());
     }
     code
 }

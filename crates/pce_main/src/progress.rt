@@ -68,6 +68,11 @@ impl<K: Sink + Drop> Progress<K> {
             pace: Pace::new(rt),
         }
     }
+
+    /// What it tells of.
+    pub(crate) fn sink(&self) -> &K {
+        &self.sink
+    }
 }
 
 impl<K: Sink + Drop> Sink for Progress<K> {

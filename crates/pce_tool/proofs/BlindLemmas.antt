@@ -1,5 +1,5 @@
 -- What is told of lines on a network without topologies is what closed peers hear of a run with topologies that discloses their events.
-use Rattle.std.proofs.Common.{◌≡◌, ℕ, List, [], ◌++◌}
+use Rattle.std.proofs.Common.{ℕ, List, [], ◌++◌}
 use Rattle.std.specs.declared.option.Option.{Option}
 use Rattle.dom_edge.specs.Stores.{Files}
 use Rattle.client_laws.proofs.run_laws.TextLemmas.ModelledNetworks.{settings_are_modelled}

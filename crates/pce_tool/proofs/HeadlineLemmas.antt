@@ -66,7 +66,7 @@ line_feeds n text line.Finish says = (tt, omega arith)
 line_feeds n text line.CertifyOn says = (tt, omega arith)
 line_feeds n text line.DiscloseOn says = (tt, omega arith)
 
-script_feeds : (files : Option Files) (n : NetworkParts) (ls : List NumberedLine) (cs : List Cue) → AreCues files n ls cs → FeedOctets cs × (all_octets cs ≤ all_lengths ls)
+pub script_feeds : (files : Option Files) (n : NetworkParts) (ls : List NumberedLine) (cs : List Cue) → AreCues files n ls cs → FeedOctets cs × (all_octets cs ≤ all_lengths ls)
 script_feeds files n [] [] are = (All-nil (λ (c : Cue). FeedsOctets c.event), omega arith)
 script_feeds files n [] (c ∷ cs) are = absurd are
 script_feeds files n (l ∷ ls) [] are = absurd are

@@ -8,6 +8,7 @@ pub mod NetworkEnds
 pub mod RouteLemmas
 mod RouteRanges
 pub mod HeadlineLemmas
+mod ReplayWorth
 pub mod ShortWords
 pub mod DrawnNetwork
 pub mod BlindLemmas

@@ -12,6 +12,9 @@ use Rattle.client_laws.specs.plant_play.Playing.{PlayedNetwork}
 use Rattle.plant_client.specs.plant_play.transcript.declared.stop.Stop.{Stop}
 use Rattle.plant_client.specs.plant_play.transcript.declared.stop.Stop.TheVariants as stop
 use Rattle.plant_client.specs.plant_play.WholeScripts.{around}
+use Rattle.plant_client.specs.plant_play.Replays.{IsReplayed, ReplayStops}
+use Rattle.plant_client.specs.plant_play.declared.replaying.Span.{Span}
+use Rattle.plant_client.proofs.plant_play.ReplayLemmas.{replay_before}
 use Rattle.plant_client.proofs.plant_play.ScriptLemmas.{file_before, script_before}
 use Rattle.blind_play.specs.WholeScripts.{ScriptStops}
 use Rattle.plant_client.specs.Asking.{AskStops, Asks, StopsAtFile, load_line, topologies}
@@ -25,7 +28,9 @@ use Rattle.network_files.specs.Settings.{HasNetwork, settings_max}
 use Rattle.pce_tool.specs.Worlds.{World, WroteNothing}
 use Rattle.pce_tool.specs.Parts.{IsBadSettings, IsFileStatus, IsFinished}
 use Rattle.network_check.specs.declared.findings.Report.{Report}
-use Rattle.pce_tool.specs.Networks.{BlindEnds, BulkEnds, CheckEnds, HasScript, IsBlindStatus, IsChecked, IsCounted, IsPathStatus, IsPlayStatus, IsReported, IsSettingsFault, IsStopStatus, PathEnds, PlayEnds, question_of, status_of}
+use Rattle.pce_tool.specs.Around.{IsSettingsFault, around_of}
+use Rattle.pce_tool.specs.Replays.{IsReplayStatus, ReplayEnds}
+use Rattle.pce_tool.specs.Networks.{BlindEnds, BulkEnds, CheckEnds, HasScript, IsBlindStatus, IsChecked, IsCounted, IsPathStatus, IsPlayStatus, IsReported, IsStopStatus, PathEnds, PlayEnds, question_of, status_of}
 
 -- ---- settings
 
@@ -76,6 +81,33 @@ script_played w net n has script has_script f0 f1 f2 counts le s is =
       ends = subst (λ (c : ℕ × ℕ). IsPlayStatus (around w.files (w.before, w.after) c w.output_faults w.failed_at) n script s) (sym counts)
           (play_before w.files n script (w.before, w.after) f0 f1 f2 w.output_faults w.failed_at le s is);
     }))
+
+-- ---- a script that is played as it comes
+
+pub replay_stopped : (span : Option Span) (files : Option Files) (written : Option (List ℕ) × Option (List ℕ)) (counts o : ℕ × ℕ) (failed : List ℕ) (n : NetworkParts) (input : Option (List ℕ)) (faults : ℕ × ℕ) (why : Stop) →
+    ReplayStops span (around files written counts o failed) n input faults why → IsReplayStatus span (around files written counts o failed) n input faults (status_of why)
+replay_stopped span files written counts o failed n input faults stop.ReadFault is = is
+replay_stopped span files written counts o failed n input faults stop.WriteFault is = is
+replay_stopped span files written counts o failed n input faults (stop.BadNetwork file line fault) is = is
+replay_stopped span files written counts o failed n input faults (stop.BadLine line) is = is
+replay_stopped span files written counts o failed n input faults (stop.TooLarge name) is = is
+replay_stopped span files written counts o failed n input faults stop.NoMemory is = is
+
+-- all its whole lines are played
+pub replayed : (w : World) (net : List ℕ) (span : Option Span) (n : NetworkParts) → HasNetwork w.files net n → IsReplayed span (around_of w) n w.input → ReplayEnds w net span status.Ok
+replayed w net span n has is = inr (record { network = n; has = has; ends = is })
+
+-- it stops, and the store failed since an earlier moment
+pub replay_cut : (w : World) (net : List ℕ) (span : Option Span) (n : NetworkParts) → HasNetwork w.files net n → (f0 f1 f2 : ℕ) → w.store_faults ≡ (f0, f2) → f0 ≤ f1 → (why : Stop) →
+    ReplayStops span (around w.files (w.before, w.after) (f1, f2) w.output_faults w.failed_at) n w.input w.input_faults why → ReplayEnds w net span (status_of why)
+replay_cut w net span n has f0 f1 f2 counts le why is =
+    inr (record {
+      network = n;
+      has = has;
+      ends = subst (λ (c : ℕ × ℕ). IsReplayStatus span (around w.files (w.before, w.after) c w.output_faults w.failed_at) n w.input w.input_faults (status_of why)) (sym counts)
+          (replay_stopped span w.files (w.before, w.after) (f0, f2) w.output_faults w.failed_at n w.input w.input_faults why
+          (replay_before w.files span n w.input (w.before, w.after) f0 f1 f2 w.output_faults w.failed_at le w.input_faults why is));
+    })
 
 -- ---- a script on a network without topologies
 

@@ -1,5 +1,5 @@
 -- What the words of `path` name are numbers of their types.
-use Rattle.std.proofs.Common.{◌≡◌, ◌≤◌, ◌<◌, ◌^◌, ◌-◌, ◌==◌, ◌&&◌, ℕ, Bool, true, false, List, [], ◌∷◌, All, length, Option, Some, None, if◌then◌else◌, nat_le, codes, slice_index, refl, sym, ◌∙◌, ap, subst, arith}
+use Rattle.std.proofs.Common.{◌≡◌, ◌≤◌, ◌<◌, ◌^◌, ◌-◌, ◌==◌, ℕ, Bool, true, false, List, [], ◌∷◌, All, length, Option, Some, None, if◌then◌else◌, nat_le, codes, slice_index, refl, sym, ◌∙◌, ap, subst, arith}
 use Rattle.std.specs.Str.{bytes_eq}
 use Rattle.std.proofs.lemmas.Bool.{and_parts, eqb-true, leb-true}
 use Rattle.std.proofs.lemmas.List.Elements.{All-nil, All-cons}
@@ -11,10 +11,11 @@ use Rattle.dom_base.proofs.NumeralLaws.{at_most}
 use Rattle.pcep_subobjects.specs.Addresses.{IsAddr, bits_of}
 use Rattle.client_laws.proofs.run_laws.TextLemmas.AddrRanges.{addr_in_range, by_parts}
 use Rattle.client_laws.proofs.Written.{IsInRange}
+use Rattle.plant_client.specs.plant_play.declared.replaying.Span.{Span}
 use Rattle.pce_tool.specs.declared.route.Route.{Route}
 use Rattle.pce_tool.specs.Networks.{question_of}
 use Rattle.pce_tool.specs.Run.{Command, command_of}
-use Rattle.pce_tool.specs.Tasks.{Blind, Bulk, Check, Path, Play, are_alike, are_different, count_in, domain_in, domains_in, is_sequence, network_task, path_in, path_task, route_along, route_by, route_in, route_up, sequence_most, task_of, task_or, word_below}
+use Rattle.pce_tool.specs.Tasks.{Blind, Bulk, Check, Path, Play, Replay, are_alike, are_different, count_in, domain_in, domains_in, is_sequence, lines_task, network_task, path_in, path_task, route_along, route_by, route_in, route_up, sequence_most, span_in, task_of, task_or, word_below}
 
 -- what is only found where a test holds, and where it fails
 where_holds : {Y : Type 0} (b : Bool) (o : Option Y) (y : Y) → (if b then o else None) ≡ Some y → (b ≡ true) × (o ≡ Some y)
@@ -90,24 +91,39 @@ route_in_range source target words r is =
 
 -- ---- all words
 
-no_file : (net word : List ℕ) (r : Route) (plays blinds bulks checks : Bool) (o : Option ℕ) →
-    (if plays then Some (Play word) else (if blinds then Some (Blind word) else (if bulks then (o >>= λ n. Some (Bulk n)) else (if checks then Some (Check word) else None)))) ≡ Some (Path net r) → ⊥
-no_file net word r true blinds bulks checks o is = cc
-no_file net word r false true bulks checks o is = cc
-no_file net word r false false false true o is = cc
-no_file net word r false false false false o is = cc
-no_file net word r false false true checks None is = cc
-no_file net word r false false true checks (Some n) is = cc
+no_file : (net word : List ℕ) (r : Route) (plays replays blinds bulks checks : Bool) (o : Option ℕ) →
+    (if plays then Some (Play word) else (if replays then Some (Replay word None) else (if blinds then Some (Blind word) else (if bulks then (o >>= λ n. Some (Bulk n)) else (if checks then Some (Check word) else None))))) ≡ Some (Path net r) → ⊥
+no_file net word r true replays blinds bulks checks o is = cc
+no_file net word r false true blinds bulks checks o is = cc
+no_file net word r false false true bulks checks o is = cc
+no_file net word r false false false false true o is = cc
+no_file net word r false false false false false o is = cc
+no_file net word r false false false true checks None is = cc
+no_file net word r false false false true checks (Some n) is = cc
+
+no_span : (net one : List ℕ) (r : Route) (o : Option Span) → (o >>= λ s. Some (Replay one (Some s))) ≡ Some (Path net r) → ⊥
+no_span net one r None is = cc
+no_span net one r (Some s) is = cc
+
+no_lines : (net one from to : List ℕ) (words : List (List ℕ)) (r : Route) (replays : Bool) → (if replays then lines_task one from to words else None) ≡ Some (Path net r) → ⊥
+no_lines net one from to words r false is = cc
+no_lines net one from to (word ∷ words) r true is = cc
+no_lines net one from to [] r true is = no_span net one r (span_in from to) is
+
+path_or : (net one source target : List ℕ) (words : List (List ℕ)) (r : Route) (paths replays : Bool) →
+    (if paths then path_task one source target words else (if replays then lines_task one source target words else None)) ≡ Some (Path net r) → path_task one source target words ≡ Some (Path net r)
+path_or net one source target words r true replays is = is
+path_or net one source target words r false replays is = absurd (no_lines net one source target words r replays is)
 
 named : (words : List (List ℕ)) (net : List ℕ) (r : Route) → network_task words ≡ Some (Path net r) → IsInRange (question_of r)
 named [] net r is = absurd (cc)
 named (verb ∷ []) net r is = absurd (cc)
 named (verb ∷ word ∷ []) net r is =
-    absurd (no_file net word r (bytes_eq verb (codes "play")) (bytes_eq verb (codes "blind")) (bytes_eq verb (codes "bulk")) (bytes_eq verb (codes "check")) (count_in word) is)
+    absurd (no_file net word r (bytes_eq verb (codes "play")) (bytes_eq verb (codes "replay")) (bytes_eq verb (codes "blind")) (bytes_eq verb (codes "bulk")) (bytes_eq verb (codes "check")) (count_in word) is)
 named (verb ∷ one ∷ source ∷ []) net r is = absurd (cc)
 named (verb ∷ one ∷ source ∷ target ∷ words) net r is =
-    let path = where_holds (bytes_eq verb (codes "path")) (path_task one source target words) (Path net r) is in
-    let route = by_parts (path_in source target words) (λ x. Some (Path one x)) (Path net r) path.1 in
+    let path = path_or net one source target words r (bytes_eq verb (codes "path")) (bytes_eq verb (codes "replay")) is in
+    let route = by_parts (path_in source target words) (λ x. Some (Path one x)) (Path net r) path in
     let same : route.0 ≡ r = cc in
     route_in_range source target words r (route.1 ∙ ap (λ (x : Route). Some x) same)
 

@@ -36,7 +36,7 @@ use Rattle.network_files.specs.Settings.{HasNetwork}
 use Rattle.pce_tool.specs.Networks.{question_of}
 use Rattle.pce_tool.specs.Tasks.{Task, Blind, Bulk, Path, Play, Replay}
 use Rattle.plant_client.specs.plant_play.Replays.{Replaying, octets_of}
-use Rattle.plant_client.specs.plant_play.declared.replay.Span.{Span}
+use Rattle.plant_client.specs.plant_play.declared.replaying.Span.{Span}
 
 -- A run is right; and without a parent no id wraps around in it, so what is said of it then has no premise.
 pub record IsWorth (n : NetworkParts) (turns : List Turn) (end : PlayedNetwork) : Type 0 where

@@ -1,19 +1,18 @@
 -- How a run over a network ends: the settings in a file; a script that is played, from the input, with topologies or without; a path that a client asks for; a network that is drawn; or what is told of its files.
 use Rattle.std.specs.Prelude.{◌≡◌, ◌⊎◌, ◌<◌, ◌≤◌, ℕ, Bool, true, false, List, length, Option, Some, None, IfSome}
 use Rattle.std.specs.Io.KnownBytes.{Appends}
-use Rattle.client_laws.specs.plant_model.Types.{As, NetFault, NetworkParts}
+use Rattle.client_laws.specs.plant_model.Types.{As, NetworkParts}
 use Rattle.dom_edge.specs.Stores.{Files}
 use Rattle.dom_edge.specs.Whole.{AppendsSome}
 use Rattle.plant_text.specs.declared.fault.NetFault.TheVariants.{NoElement}
 use Rattle.plant_text.specs.Networks.{with_path}
-use Rattle.plant_text.specs.Reads.{IsFaulty}
 use Rattle.plant_text.specs.Settings.{is_element}
 use Rattle.network_check.specs.declared.findings.Report.{Report}
 use Rattle.network_check.specs.Findings.{IsReport}
 use Rattle.plant_client.specs.plant_play.transcript.declared.stop.Stop.{Stop}
 use Rattle.plant_client.specs.plant_play.transcript.declared.stop.Stop.TheVariants as stop
 use Rattle.plant_client.specs.plant_play.transcript.Stops.{script_most}
-use Rattle.plant_client.specs.plant_play.WholeScripts.{Around, IsWhole, ScriptStops, around}
+use Rattle.plant_client.specs.plant_play.WholeScripts.{Around, IsWhole, ScriptStops}
 use Rattle.plant_client.specs.declared.requests.Demand.TheVariants.{One}
 use Rattle.plant_client.specs.declared.tally.Tally.{Tally}
 use Rattle.plant_client.specs.Bulk.{IsTallied}
@@ -21,13 +20,12 @@ use Rattle.plant_client.specs.TallyText.{tally_text}
 use Rattle.blind_play.specs.WholeScripts as blind
 use Rattle.pce_tool.specs.declared.status.Status.{Status}
 use Rattle.pce_tool.specs.declared.status.Status.TheVariants as status
-use Rattle.network_files.specs.Settings.{HasNetwork, settings_max}
+use Rattle.network_files.specs.Settings.{HasNetwork}
 use Rattle.pce_tool.specs.Worlds.{World, HasInput, HasRisen, WroteNothing, input_name}
 use Rattle.plant_client.specs.declared.question.Question.{Question}
 use Rattle.plant_client.specs.Asking.{AskStops, Asks}
 use Rattle.plant_client.specs.Telling.{told_text}
 use Rattle.pce_tool.specs.declared.route.Route.{Route}
-use Rattle.pce_tool.specs.Parts.{IsFileStatus}
 use Rattle.pce_tool.specs.Run.{Ends}
 use Rattle.pce_tool.specs.Tasks.{Task, Blind, Bulk, Check, Domain, Path, Play, Replay}
 use Rattle.pce_tool.specs.Around.{IsSettingsStatus, around_of}

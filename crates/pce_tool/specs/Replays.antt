@@ -4,7 +4,7 @@ use Rattle.client_laws.specs.plant_model.Types.{NetworkParts}
 use Rattle.network_files.specs.Settings.{HasNetwork}
 use Rattle.plant_client.specs.plant_play.Replays.{IsReplayed, ReplayStops}
 use Rattle.plant_client.specs.plant_play.WholeScripts.{Around}
-use Rattle.plant_client.specs.plant_play.declared.replay.Span.{Span}
+use Rattle.plant_client.specs.plant_play.declared.replaying.Span.{Span}
 use Rattle.plant_client.specs.plant_play.transcript.declared.stop.Stop.TheVariants as stop
 use Rattle.pce_tool.specs.declared.status.Status.{Status}
 use Rattle.pce_tool.specs.declared.status.Status.TheVariants as status

@@ -9,7 +9,7 @@ use Rattle.dom_base.specs.Steps.{◌>>=◌}
 use Rattle.pcep_subobjects.specs.Addresses.{bits_of}
 use Rattle.plant_text.specs.Names.{same_as}
 use Rattle.plant_client.specs.Requests.{requests_most}
-use Rattle.plant_client.specs.plant_play.declared.replay.Span.{Span}
+use Rattle.plant_client.specs.plant_play.declared.replaying.Span.{Span}
 use Rattle.pce_tool.specs.declared.route.Route.{Route}
 use Rattle.pce_tool.specs.Run.{Command, command_of}
 

@@ -7,7 +7,7 @@ ghost use Rattle.path_certificate.specs.Rows.{AreLabelRows};
 ghost use Rattle.path_certificate.specs.Text.{certificate_in};
 ghost use Rattle.network_files.specs.Settings.{HasNetwork, settings_max};
 ghost use Rattle.pce_tool.specs.Limits.{certificate_max};
-ghost use Rattle.pce_tool.specs.Networks.{IsSettingsFault};
+ghost use Rattle.pce_tool.specs.Around.{IsSettingsFault};
 ghost use Rattle.dom_edge.specs.Stores.{HasFile};
 ghost use Rattle.network_files.specs.Topologies.{HasTopology, topology_max};
 ghost use Rattle.diverse_pairs.specs.Potentials.{HasRising};

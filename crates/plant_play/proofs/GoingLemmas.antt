@@ -1,5 +1,5 @@
 -- A network that goes on by itself: what is due is possible, and what is due no more is done.
-use Rattle.std.proofs.Common.{◌≡◌, ◌<◌, ◌+◌, ℕ, suc, arith, Bool, true, false, not, cond, length, List, [], ◌∷◌, Option, Some, None, Err, inl, inr, sym, ◌∙◌, subst, ap, refl}
+use Rattle.std.proofs.Common.{◌≡◌, ◌<◌, ◌+◌, ℕ, suc, arith, Bool, true, false, cond, length, List, [], ◌∷◌, Option, Some, None, Err, inl, inr, sym, ◌∙◌, subst, ap, refl}
 use Rattle.plant_network.specs.plant_model.Types.{As, NetworkParts}
 use Rattle.disclosure.specs.Shown.{open_of}
 use Rattle.plant_network.specs.plant_model.declared.event.Event.{Event}

@@ -6,6 +6,8 @@ mod LogLemmas
 pub mod ShownLemmas
 pub mod TurnLemmas
 pub mod PlayedLines
+pub mod ReplayLemmas
+pub mod ReelLemmas
 pub mod ScriptLemmas
 -- handed on from below
 pub use Rattle.plant_network.proofs.plant_model

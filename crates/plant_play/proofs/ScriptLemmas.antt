@@ -86,7 +86,7 @@ file_before files name e old new f0 f1 f2 failed le (stop.BadLine line) is = is
 file_before files name e old new f0 f1 f2 failed le (stop.TooLarge file) is = is
 file_before files name e old new f0 f1 f2 failed le stop.NoMemory is = is
 
-at_file_before : (files : Option Files) (n : NetworkParts) (l : NumberedLine) (old new : PlayedNetwork) (f0 f1 f2 : ℕ) (failed : List ℕ) → f0 ≤ f1 → (why : Stop) →
+pub at_file_before : (files : Option Files) (n : NetworkParts) (l : NumberedLine) (old new : PlayedNetwork) (f0 f1 f2 : ℕ) (failed : List ℕ) → f0 ≤ f1 → (why : Stop) →
     StopsAtFile files n l old new (f1, f2) failed why → StopsAtFile files n l old new (f0, f2) failed why
 at_file_before files n l old new f0 f1 f2 failed le why is = record {
   event = is.event;

@@ -1,6 +1,9 @@
 -- A source that is read line by line.
-use Rattle.std.specs.Prelude.{◌≡◌, ◌<◌, ℕ, List, [], ◌∷◌, ◌++◌, length, take, drop, Option, Some, None}
+use Rattle.std.specs.Prelude.{◌≡◌, ◌<◌, ℕ, List, [], ◌∷◌, ◌++◌, length, Option, Some, None, IfSome}
+use Rattle.std.specs.Io.KnownBytes.{Consumes, IsAtEnd, Keeps}
 use Rattle.dom_edge.specs.Causes.{Rose}
+use Rattle.dom_edge.specs.declared.source.Piece.{Piece}
+use Rattle.dom_edge.specs.declared.source.Piece.TheVariants as piece
 use Rattle.plant_play.specs.Replays.{HasNoEnd}
 use Rattle.plant_play.specs.declared.reel.Cut.{Cut}
 use Rattle.plant_play.specs.declared.reel.Cut.TheVariants as cut
@@ -12,10 +15,6 @@ use Rattle.transcript.specs.Stops.{input_name, line_most}
 pub record Wound : Type 0 where
   pub line : List ℕ
   pub read : List ℕ
-
--- of a piece that was read the bytes between two places
-abbrev pub between : List ℕ → ℕ → ℕ → List ℕ
-between piece from to = drop from (take to piece)
 
 -- what is still ahead: what was read, and what is left
 abbrev pub ahead : List ℕ → Option (List ℕ) → Option (List ℕ)
@@ -33,10 +32,18 @@ Cuts cut.Line old new = (more : List ℕ) × (old.read ≡ more ++ 10 ∷ new.re
 Cuts cut.More old new = (new.read ≡ []) × (new.line ≡ old.line ++ old.read) × HasNoEnd old.read
 Cuts cut.Long old new = (more : List ℕ) × (rest : List ℕ) × (old.read ≡ more ++ rest) × HasNoEnd more × (line_most < length (old.line ++ more))
 
--- so many bytes come without a line end, where what comes is told
-abbrev pub IsLongAhead : Option (List ℕ) → Type 0
-IsLongAhead None = Unit {0}
-IsLongAhead (Some all) = (begun : List ℕ) × (rest : List ℕ) × (all ≡ begun ++ rest) × HasNoEnd begun × (line_most < length begun)
+-- what a read took is what was read, all of it; or nothing was left, or it failed
+abbrev pub Fills : Option (List ℕ) → Option (List ℕ) → Piece → List ℕ → Type 0
+Fills old new (piece.Bytes n) read = Consumes old new read
+Fills old new piece.End read = Keeps old new × IsAtEnd old
+Fills old new piece.Failed read = Keeps old new
+
+-- so many bytes come without a line end; where what comes is told, they are what comes first
+pub record IsLongAhead (all : Option (List ℕ)) : Type 0 where
+  pub begun : List ℕ
+  pub no_end : HasNoEnd begun
+  pub long : line_most < length begun
+  pub begins : IfSome all (λ bytes. (rest : List ℕ) × (bytes ≡ begun ++ rest))
 
 -- why no line came: the input's faults before and after are these
 abbrev pub IsReelEnd : Option (List ℕ) → ℕ × ℕ → Stop → Type 0

@@ -10,7 +10,7 @@ use Rattle.plant_text.specs.Lines.{line_in}
 use Rattle.plant_play.specs.Playing.{Cue, IsNewNetwork, PlaysLine, PlayedNetwork}
 use Rattle.plant_play.specs.Turns.{Turn}
 use Rattle.plant_play.specs.WholeScripts.{Around, IsCue, StopsAtFile, WroteAll, WroteSome}
-use Rattle.plant_play.specs.declared.replay.Span.{Span}
+use Rattle.plant_play.specs.declared.replaying.Span.{Span}
 use Rattle.transcript.specs.declared.stop.Stop.{Stop}
 use Rattle.transcript.specs.declared.stop.Stop.TheVariants as stop
 use Rattle.transcript.specs.Stops.{input_name, line_most, numbered}

@@ -10,7 +10,7 @@ mod lines;
 mod log;
 mod player;
 mod reel;
-mod replay;
+mod replaying;
 mod script;
 mod showing;
 
@@ -20,7 +20,7 @@ pub use log::Log;
 pub use network_files::FileError as PlayError;
 pub use plant_network::model::Outcome;
 pub use player::Player;
-pub use replay::{Span, replay};
+pub use replaying::{Span, replay};
 pub use script::{SCRIPT_MAX, play_script};
 pub use showing::Modes;
 pub use transcript::Stop;

@@ -1,9 +1,9 @@
 //! A source that is read piece by piece, and given out line by line.
 ghost use Rattle.std.specs.Prelude.{◌≡◌, ◌≤◌, ◌==◌, ◌++◌, ◌∷◌, [], IfErr, IfOk, MatchOption, OnOk, length, position, true, false, IfSome};
-ghost use Rattle.dom_edge.specs.Streams.{Takes};
 ghost use Rattle.dom_edge.specs.Causes.{HasCause};
-ghost use Rattle.plant_play.specs.Reels.{Cuts, Gives, IsReelEnd, ahead};
+ghost use Rattle.plant_play.specs.Reels.{Cuts, Fills, Gives, IsReelEnd, ahead};
 ghost use Rattle.plant_play.specs.Replays.{HasNoEnd};
+ghost use Rattle.transcript.specs.Stops.{line_most};
 
 use crate::cue::too_large;
 use dom_base::NoMemory;
@@ -66,24 +66,32 @@ impl Reel {
 
     /// The line that came last, without its line end.
     pub(crate) fn line(&self) -> &[u8]
-        ensures { result.now ≡ self.now.line }
+        ensures line { result.now ≡ self.now.line }
+        ensures short { length result.now ≤ line_most }
     {
         &self.line
     }
 
-    // So many bytes of what was read belong to the line that was begun; behind them a line end stands, where it is whole.
-    fn take(&mut self, count: usize, is_whole: bool) -> Result<Cut, NoMemory> {
+    // Takes a line up to this line end, or all that was read where there is none.
+    fn take(&mut self, end: Option<usize>) -> Result<Cut, NoMemory>
+        requires { end ≡ position (λ c. c == 10) self.old.read }
+        ensures { IfOk result (λ cut. Cuts cut self.old self.new) }
+    {
+        let count = end.unwrap_or(self.to - self.from);
         if self.line.len() + count > LINE_MAX {
             return Ok(Cut::Long);
         }
-        self.line
-            .extend_from_slice(&self.piece[self.from..self.from + count])?;
-        if is_whole {
-            self.from += count + 1;
-            Ok(Cut::Line)
-        } else {
-            self.from += count;
-            Ok(Cut::More)
+        let stop = self.from + count;
+        self.line.extend_from_slice(&self.piece[self.from..stop])?;
+        match end {
+            Some(_place) => {
+                self.from = stop + 1;
+                Ok(Cut::Line)
+            }
+            None => {
+                self.from = stop;
+                Ok(Cut::More)
+            }
         }
     }
 
@@ -91,18 +99,15 @@ impl Reel {
     fn cut(&mut self) -> Result<Cut, NoMemory>
         ensures { IfOk result (λ cut. Cuts cut self.old self.new) }
     {
-        let read = &self.piece[self.from..self.to];
-        match line_feed_of(read) {
-            Some(place) => self.take(place, true),
-            None => self.take(self.to - self.from, false),
-        }
+        let end = line_feed_of(&self.piece[self.from..self.to]);
+        self.take(end)
     }
 
     // Reads the next piece, where all of the last one was taken.
     fn fill<I: Source>(&mut self, input: &mut I) -> Piece
         requires taken { self.old.read ≡ [] }
         ensures line { self.new.line ≡ self.old.line }
-        ensures takes { Takes (I.left input.old) (I.left input.new) result self.new.read }
+        ensures fills { Fills (I.left input.old) (I.left input.new) result self.new.read }
         ensures cause { HasCause (I.faults input.old) (I.faults input.new) (result ≡ Piece.Failed) }
     {
         let piece = input.read(&mut self.piece);

@@ -1,14 +1,14 @@
 -- Parts are opened and closed.
-use Rattle.std.proofs.Common.{◌≡◌, ℕ, ◌+◌, Bool, true, false, is_ok, List, [], ◌∷◌, ◌++◌, length, append_assoc, append-nil, codes, decimal, Option, Some, None, Result, Ok, Err, refl, sym, ap, subst, ◌∙◌, arith, inl, inr, MatchResult}
+use Rattle.std.proofs.Common.{◌≡◌, ℕ, ◌+◌, true, false, is_ok, List, [], ◌∷◌, ◌++◌, append-nil, codes, decimal, Option, Some, None, Result, Ok, Err, refl, sym, ap, subst, ◌∙◌, inl, inr, MatchResult}
 use Rattle.dom_edge.specs.Folders.{Contents, Closes, Makes}
+use Rattle.dom_edge.specs.Moments.{IsMomentText}
 use Rattle.dom_edge.specs.declared.folder.FolderError.{FolderError}
 use Rattle.te_links.specs.Rows.{Rows}
 use Rattle.plant_text.specs.declared.settings.PeerRow.{PeerRow}
 use Rattle.event_tape.specs.declared.told.Told.{Told}
-use Rattle.event_tape.specs.declared.tape.TapeEnd.{TapeEnd}
-use Rattle.plant_record.specs.Parts.{Title, Part, head_line, last_tick, part_name, part_text, tail_by, topologies}
-use Rattle.plant_record.specs.Books.{BeginsWith, Deed, File, IsBook, Script, files, kept, next_part, part_count, told_in}
-use Rattle.plant_record.specs.Standing.{Breaks, ClosesFile, ClosesPart, HasCounted, HasPart, IsBetween, IsCut, IsKept, ScriptState, Stands, written_in}
+use Rattle.plant_record.specs.Parts.{Title, Part, head_line, part_name, part_text, topologies}
+use Rattle.plant_record.specs.Books.{BeginsWith, File, Script, files, next_part, part_count, told_in}
+use Rattle.plant_record.specs.Standing.{Breaks, ClosesFile, ClosesPart, HasPart, IsBetween, ScriptState, Stands, written_in}
 use Rattle.plant_record.specs.declared.fault.Fault.{Fault}
 use Rattle.plant_record.proofs.Standing.{begins_more, stands_breaks, whole_begins}
 
@@ -59,7 +59,7 @@ module _ {F : Type 0} (written : F → Option (List ℕ)) (peers : List PeerRow)
       subst (λ (v : S). IsBetween peers t told v d) (sym is) (record {
         book = Script st.moment st.events ∷ st.book;
         is_kept = record {
-          sound = (st.is_kept.sound, subst (λ (gs : List Rows). BeginsWith gs (topologies (told_in st.book ++ st.events))) (sym (st.topologies_are ∙ ap topologies st.is)) (whole_begins (topologies (told_in st.book ++ st.events))));
+          sound = (st.is_kept.sound, subst (λ (gs : List Rows). BeginsWith gs (topologies (told_in st.book ++ st.events))) (sym (st.topologies_are ∙ ap topologies st.is)) (whole_begins (topologies (told_in st.book ++ st.events))), st.page);
           contents = closed.contents;
           is = closed.is;
           closed = closed.closed ∙ ap (λ (fs : List File). fs ++ (part_name s.number, st.bytes) ∷ []) st.is_kept.closed ∙ ap (λ (f : File). files peers t st.book ++ f ∷ []) file;
@@ -106,10 +106,10 @@ module _ {F : Type 0} (written : F → Option (List ℕ)) (peers : List PeerRow)
   pub not_made : (contents : Contents) (c d : Option Contents) (name : List ℕ) (e : FolderError) → c ≡ Some contents → Makes written c d name (Err e) → d ≡ c
   not_made contents c d name e is makes = let known : Makes written (Some contents) d name (Err e) = subst (λ (x : Option Contents). Makes written x d name (Err e)) is makes in known ∙ sym is
 
-  pub opened : (told : List Told) (s u : S) (c d : Option Contents) (name moment : List ℕ) (file : F) → IsBetween peers t told s c → Makes written c d name (Ok file) → u.file ≡ Some file → u.number ≡ s.number + 1 → u.loads ≡ s.loads → u.events ≡ s.events → u.tick ≡ s.tick → u.name ≡ s.name → u.version ≡ s.version
+  pub opened : (told : List Told) (s u : S) (c d : Option Contents) (name moment : List ℕ) (file : F) (seconds : ℕ) → IsMomentText seconds moment → IsBetween peers t told s c → Makes written c d name (Ok file) → u.file ≡ Some file → u.number ≡ s.number + 1 → u.loads ≡ s.loads → u.events ≡ s.events → u.tick ≡ s.tick → u.name ≡ s.name → u.version ≡ s.version
       → u.pending ≡ codes "# record " ++ s.name ++ codes " part " ++ decimal (s.number + 1) ++ codes " tick " ++ decimal s.tick ++ codes " event " ++ decimal (s.events + 1) ++ codes " at " ++ moment ++ codes " by " ++ s.version ++ 10 ∷ []
       → Stands written peers t told u d
-  opened told s u c d name moment file b makes file_is number loads events tick name_is version pending =
+  opened told s u c d name moment file seconds at b makes file_is number loads events tick name_is version pending =
       let (now, here, closed, empty) = made b.is_kept.contents c d name file b.is_kept.is makes in
       let part : Part = next_part b.book moment [] in
       let head : u.pending ≡ head_line t part =
@@ -118,6 +118,7 @@ module _ {F : Type 0} (written : F → Option (List ℕ)) (peers : List PeerRow)
         book = b.book;
         moment = moment;
         events = [];
+        page = record { seconds = seconds; at = at; in_range = tt };
         is_kept = record { sound = b.is_kept.sound; contents = now; is = here; closed = closed ∙ b.is_kept.closed };
         topologies_are = b.topologies_are;
         is = b.is ∙ sym (append-nil (told_in b.book));
@@ -134,12 +135,12 @@ module _ {F : Type 0} (written : F → Option (List ℕ)) (peers : List PeerRow)
         text = head ∙ sym (append-nil (head_line t part));
       }
 
-  pub opened_so : (told : List Told) (s w u : S) (c d : Option Contents) (name moment : List ℕ) (file : F) (number event : ℕ) (start : List ℕ) → s ≡ w → IsBetween peers t told s c → Makes written c d name (Ok file) → u.file ≡ Some file → number ≡ s.number + 1 → event ≡ s.events + 1 → start ≡ []
+  pub opened_so : (told : List Told) (s w u : S) (c d : Option Contents) (name moment : List ℕ) (file : F) (number event seconds : ℕ) (start : List ℕ) → IsMomentText seconds moment → s ≡ w → IsBetween peers t told s c → Makes written c d name (Ok file) → u.file ≡ Some file → number ≡ s.number + 1 → event ≡ s.events + 1 → start ≡ []
       → u.number ≡ number → u.loads ≡ s.loads → u.events ≡ s.events → u.tick ≡ s.tick → u.name ≡ s.name → u.version ≡ s.version
       → u.pending ≡ start ++ codes "# record " ++ w.name ++ codes " part " ++ decimal number ++ codes " tick " ++ decimal w.tick ++ codes " event " ++ decimal event ++ codes " at " ++ moment ++ codes " by " ++ w.version ++ 10 ∷ []
       → Stands written peers t told u d
-  opened_so told s w u c d name moment file number event start same b makes file_is next first none number_is loads events tick name_is version pending =
-      opened told s u c d name moment file b makes file_is (number_is ∙ next) loads events tick name_is version (pending ∙ rw (none, next, first, ← same) refl)
+  opened_so told s w u c d name moment file number event seconds start at same b makes file_is next first none number_is loads events tick name_is version pending =
+      opened told s u c d name moment file seconds at b makes file_is (number_is ∙ next) loads events tick name_is version (pending ∙ rw (none, next, first, ← same) refl)
 
   -- no part is open, and none could be opened
   pub between_breaks : (told more : List Told) (s u : S) (c d : Option Contents) → IsBetween peers t told s c → u.file ≡ s.file → d ≡ c → Breaks written peers t (told ++ more) u d

@@ -1,5 +1,5 @@
 -- What one more event adds to what events tell.
-use Rattle.std.proofs.Common.{◌≡◌, ℕ, ◌+◌, List, [], ◌∷◌, ◌++◌, length, append_assoc, append-nil, refl, sym, ap, ◌∙◌, arith}
+use Rattle.std.proofs.Common.{◌≡◌, ℕ, List, [], ◌∷◌, ◌++◌, append_assoc, append-nil, refl, sym, ap, ◌∙◌}
 use Rattle.te_links.specs.Rows.{Rows}
 use Rattle.plant_text.specs.declared.settings.PeerRow.{PeerRow}
 use Rattle.event_tape.specs.declared.told.Told.{Told}

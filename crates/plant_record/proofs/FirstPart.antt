@@ -1,12 +1,12 @@
 -- A run begins.
-use Rattle.std.proofs.Common.{◌≡◌, ℕ, ◌+◌, List, [], ◌∷◌, ◌++◌, length, append-nil, Option, Some, None, Result, Ok, Err, IfSome, OnOk, refl, sym, ap, subst, ◌∙◌}
+use Rattle.std.proofs.Common.{◌≡◌, ℕ, List, [], ◌∷◌, ◌++◌, append-nil, Option, Some, None, Result, Ok, IfSome, OnOk, refl, sym, subst}
 use Rattle.std.specs.Io.KnownBytes.{Appends}
 use Rattle.dom_edge.specs.Folders.{Contents, Closes, Enters, Makes}
 use Rattle.dom_edge.specs.Moments.{IsMomentText}
 use Rattle.plant_text.specs.declared.settings.PeerRow.{PeerRow}
 use Rattle.event_tape.specs.declared.told.Told.{Told}
 use Rattle.plant_record.specs.Parts.{Title, settings_name}
-use Rattle.plant_record.specs.Books.{Adds, File, files}
+use Rattle.plant_record.specs.Books.{Adds}
 use Rattle.plant_record.specs.Standing.{IsBetween, IsFlushed, ScriptState, Stands}
 use Rattle.plant_record.specs.Recording.{Begins}
 use Rattle.plant_record.specs.declared.fault.Fault.{Fault}

@@ -1,19 +1,17 @@
 -- The hands of a record, one behind the other.
-use Rattle.std.proofs.Common.{◌≡◌, ◌≢◌, ℕ, ◌+◌, ◌≤◌, min, List, [], ◌∷◌, ◌++◌, length, append_assoc, append-nil, Option, Some, None, Result, Ok, Err, OnOk, refl, sym, ap, subst, ◌∙◌, arith, inl, inr, length-append}
+use Rattle.std.proofs.Common.{◌≡◌, ◌≢◌, ℕ, ◌+◌, ◌≤◌, List, [], ◌∷◌, ◌++◌, length, append_assoc, append-nil, Option, Some, Result, Ok, Err, refl, sym, ap, subst, ◌∙◌, arith, inl, inr, length-append}
 use Rattle.std.proofs.lemmas.List.Concat.{flat_map-append}
-use Rattle.std.specs.List.{flat_map}
-use Rattle.dom_edge.specs.Causes.{next_count, Rose}
 use Rattle.dom_edge.specs.Folders.{Contents}
 use Rattle.plant_text.specs.declared.settings.PeerRow.{PeerRow}
 use Rattle.event_tape.specs.declared.told.Told.{Told}
 use Rattle.event_tape.specs.declared.tape.Handed.{Handed}
 use Rattle.event_tape.specs.declared.tape.TapeEnd.{TapeEnd}
 use Rattle.plant_record.specs.Parts.{Title}
-use Rattle.plant_record.specs.Standing.{After, Breaks, ScriptState, Stands}
-use Rattle.plant_record.specs.Faults.{HasReason, IsJudged}
+use Rattle.plant_record.specs.Standing.{After, ScriptState, Stands}
+use Rattle.plant_record.specs.Faults.{IsJudged}
 use Rattle.event_tape.specs.Hands.{AreWhole, told_of}
 use Rattle.plant_record.specs.Hands.{Goes, Hands}
-use Rattle.plant_record.specs.Recording.{Had, HasCause, IsEndBy, IsStray, Leaves, Reaches, Records, TellsEnd}
+use Rattle.plant_record.specs.Recording.{Had, HasCause, IsEndBy, IsStray, Reaches, Records, TellsEnd}
 use Rattle.plant_record.specs.Steps.{Counts, GoesOn, IsHandTaken, end_of}
 use Rattle.plant_record.specs.declared.fault.Fault.{Fault as WhyFault}
 use Rattle.plant_record.specs.declared.recorded.Recorded.{Recorded}

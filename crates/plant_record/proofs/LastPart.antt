@@ -1,15 +1,14 @@
 -- The last part is closed.
-use Rattle.std.proofs.Common.{◌≡◌, ℕ, ◌+◌, Bool, true, false, is_ok, List, [], ◌∷◌, ◌++◌, length, take, append_assoc, append-nil, Option, Some, None, Result, Ok, Err, refl, sym, ap, subst, ◌∙◌, arith, inl, inr, MatchResult}
+use Rattle.std.proofs.Common.{◌≡◌, ℕ, ◌+◌, true, false, is_ok, List, [], ◌∷◌, ◌++◌, take, append_assoc, append-nil, Option, Some, None, Result, Ok, Err, refl, sym, ap, subst, ◌∙◌, inl, inr, MatchResult}
 use Rattle.dom_edge.specs.Folders.{Contents, Closes}
 use Rattle.dom_edge.specs.declared.folder.FolderError.{FolderError}
-use Rattle.te_links.specs.Rows.{Rows}
 use Rattle.plant_text.specs.declared.settings.PeerRow.{PeerRow}
 use Rattle.event_tape.specs.declared.told.Told.{Told}
 use Rattle.event_tape.specs.declared.tape.TapeEnd.{TapeEnd}
-use Rattle.plant_record.specs.Parts.{Title, part_name, part_text, tail_by, topologies}
-use Rattle.plant_record.specs.Books.{BeginsWith, Deed, File, files, kept, next_part, part_count, told_in}
-use Rattle.plant_record.specs.Standing.{Breaks, ClosesFile, ClosesPart, HasPart, IsCut, IsCutOff, IsFlushed, IsKept, ScriptState, Stands, written_in}
-use Rattle.plant_record.specs.Recording.{Concludes, IsLast, IsPart, IsWhole, Leaves}
+use Rattle.plant_record.specs.Parts.{Title, part_name, part_text, tail_by}
+use Rattle.plant_record.specs.Books.{BeginsWith, Deed, File, files, next_part, part_count, told_in}
+use Rattle.plant_record.specs.Standing.{Breaks, ClosesPart, HasPart, IsCut, IsCutOff, IsFlushed, IsKept, ScriptState, Stands, written_in}
+use Rattle.plant_record.specs.Recording.{Concludes, IsPart, IsWhole, Leaves}
 use Rattle.plant_record.specs.declared.fault.Fault.{Fault}
 use Rattle.plant_record.specs.declared.recorded.Recorded.{Recorded}
 use Rattle.plant_record.proofs.Standing.{appended, breaks_at, cut_begins, stands_breaks, whole_begins}
@@ -62,6 +61,7 @@ module _ {F : Type 0} (written : F → Option (List ℕ)) (peers : List PeerRow)
               sound = st.is_kept.sound;
               moment = st.moment;
               events = st.events;
+              page = st.page;
               all = st.is;
               topologies_are = st.topologies_are;
               contents = closed.contents;

@@ -1,9 +1,6 @@
 -- The reasons of faults, over several calls.
-use Rattle.std.proofs.Common.{◌≡◌, ℕ, ◌≤◌, min, ◌+◌, Result, Ok, Err, arith, subst, sym}
-use Rattle.dom_edge.specs.Causes.{HasCause, Rose, next_count}
-use Rattle.dom_edge.specs.declared.folder.FolderError.{FolderError}
-use Rattle.dom_edge.specs.declared.folder.FolderError.TheVariants as folder
-use Rattle.plant_record.specs.Faults.{HasReason, IsJudged, fault_of}
+use Rattle.std.proofs.Common.{ℕ, ◌≤◌, Result, Ok, Err, arith}
+use Rattle.plant_record.specs.Faults.{HasReason, IsJudged}
 use Rattle.plant_record.specs.declared.fault.Fault.{Fault}
 use Rattle.plant_record.specs.declared.fault.Fault.TheVariants as why
 

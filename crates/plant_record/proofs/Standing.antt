@@ -1,20 +1,19 @@
 -- A script goes on, or breaks off.
-use Rattle.std.proofs.Common.{◌≡◌, ℕ, ◌+◌, ◌≤◌, List, [], ◌∷◌, ◌++◌, length, take, drop, append_assoc, append-nil, codes, decimal, Option, Some, None, Result, Ok, Err, refl, sym, ap, subst, ◌∙◌, arith, length-append}
+use Rattle.std.proofs.Common.{◌≡◌, ℕ, ◌+◌, List, [], ◌∷◌, ◌++◌, length, take, drop, append_assoc, append-nil, Option, Some, None, refl, sym, ap, subst, ◌∙◌, length-append}
 use Rattle.std.proofs.lemmas.List.{take-append-drop}
 use Rattle.std.specs.Io.KnownBytes.{Appends}
-use Rattle.dom_edge.specs.Folders.{Contents, Closes, Makes}
-use Rattle.dom_edge.specs.Whole.{AppendsSome}
-use Rattle.dom_edge.specs.declared.folder.FolderError.{FolderError}
+use Rattle.std.specs.List.{AllByRecursion}
+use Rattle.dom_edge.specs.Folders.{Contents}
 use Rattle.te_links.specs.Rows.{Rows}
 use Rattle.plant_text.specs.declared.settings.PeerRow.{PeerRow}
 use Rattle.event_tape.specs.declared.told.Told.{Told}
 use Rattle.event_tape.specs.declared.tape.TapeEnd.{TapeEnd}
-use Rattle.event_lines.specs.EventLines.{event_line}
-use Rattle.plant_record.specs.Parts.{Title, Part, head_line, last_tick, lines_behind, load_count, loaded_by, part_name, part_text, tail_by, tick_after, topologies}
-use Rattle.plant_record.specs.Books.{Adds, BeginsWith, Deed, File, IsBook, Script, files, kept, load_files, next_part, part_count, told_in}
-use Rattle.plant_record.specs.Standing.{Breaks, HasCounted, HasPart, IsBetween, IsCut, IsCutOff, IsFlushed, IsKept, ScriptState, Stands, written_in}
-use Rattle.plant_record.proofs.Events.{lines_more, tick_more, topologies_append, topologies_more}
-use Rattle.plant_record.proofs.Books.{added, count_with, kept_more, kept_with, told_with, with_loads}
+use Rattle.event_lines.specs.EventLines.{IsInRange, event_line}
+use Rattle.plant_record.specs.Parts.{Title, Part, head_line, lines_behind, load_count, loaded_by, part_text, tail_by, tick_after, topologies}
+use Rattle.plant_record.specs.Books.{Adds, AreLoads, BeginsWith, Deed, IsPage, kept, load_files, next_part, part_count, told_in}
+use Rattle.plant_record.specs.Standing.{Breaks, HasPart, IsCut, IsCutOff, IsFlushed, IsKept, ScriptState, Stands, written_in}
+use Rattle.plant_record.proofs.Events.{lines_more, tick_more, topologies_more}
+use Rattle.plant_record.proofs.Books.{count_with, kept_more, kept_with, told_with, with_loads}
 
 -- ---- first parts
 
@@ -23,6 +22,15 @@ whole_begins xs = ([], sym (append-nil xs))
 
 pub begins_more : {A : Type 0} (whole more part : List A) → BeginsWith whole part → BeginsWith (whole ++ more) part
 begins_more whole more part (rest, is) = (rest ++ more, ap (λ (xs : List _). xs ++ more) is ∙ append_assoc part rest more)
+
+-- ---- a page with one more event
+
+in_range_more : (es : List Told) (e : Told) → AllByRecursion IsInRange es → IsInRange e → AllByRecursion IsInRange (es ++ e ∷ [])
+in_range_more [] e all here = (here, tt)
+in_range_more (x ∷ es) e all here = (all.0, in_range_more es e all.1 here)
+
+page_more : (moment : List ℕ) (events : List Told) (e : Told) → IsPage moment events → IsInRange e → IsPage moment (events ++ e ∷ [])
+page_more moment events e page here = record { seconds = page.seconds; at = page.at; in_range = in_range_more events e page.in_range here }
 
 -- ---- what is written to a file
 
@@ -54,6 +62,7 @@ module _ {F : Type 0} (written : F → Option (List ℕ)) (peers : List PeerRow)
         (record {
           moment = st.moment;
           events = st.events;
+          page = st.page;
           first = (more, ap (λ (es : List Told). es ++ more) st.is);
           topologies_are = subst (λ (gs : List Rows). BeginsWith gs (topologies (told_in st.book ++ st.events))) (sym (st.topologies_are ∙ ap topologies st.is)) (whole_begins (topologies (told_in st.book ++ st.events)));
           ended = ended;
@@ -72,6 +81,7 @@ module _ {F : Type 0} (written : F → Option (List ℕ)) (peers : List PeerRow)
     moment = st.moment;
     events = st.events;
     is_kept = st.is_kept;
+    page = st.page;
     topologies_are = st.topologies_are;
     is = st.is;
     counted = record { number_is = st.counted.number_is; loads_are = st.counted.loads_are; events_are = st.counted.events_are; tick_is = st.counted.tick_is; name_is = st.counted.name_is; version_is = st.counted.version_is };
@@ -92,7 +102,7 @@ module _ {F : Type 0} (written : F → Option (List ℕ)) (peers : List PeerRow)
   -- ---- one more event
 
   -- the topologies of an event were kept
-  module _ (before : List Told) (e : Told) (s : S) (c d : Option Contents) (gs : List Rows) (st : Stands written peers t before s c) (adds : Adds c d (load_files s.loads gs)) where
+  module _ (before : List Told) (e : Told) (s : S) (c d : Option Contents) (gs : List Rows) (st : Stands written peers t before s c) (loaded : AreLoads s.loads gs) (adds : Adds c d (load_files s.loads gs)) where
     abbrev book : List Deed
     book = with_loads gs st.book
 
@@ -100,7 +110,7 @@ module _ {F : Type 0} (written : F → Option (List ℕ)) (peers : List PeerRow)
     count = st.counted.loads_are ∙ ap (λ (xs : List Rows). length xs) (sym st.topologies_are)
 
     now_kept : IsKept peers t book d
-    now_kept = kept_more peers t st.book c d s.loads gs st.is_kept count adds
+    now_kept = kept_more peers t st.book c d s.loads gs st.is_kept count loaded adds
 
     kept_now : kept book ≡ topologies before ++ gs
     kept_now = kept_with gs st.book ∙ ap (λ (xs : List Rows). xs ++ gs) st.topologies_are
@@ -117,6 +127,7 @@ module _ {F : Type 0} (written : F → Option (List ℕ)) (peers : List PeerRow)
           (record {
             moment = st.moment;
             events = st.events;
+            page = st.page;
             first = (e ∷ [], ap (λ (es : List Told). es ++ e ∷ []) (st.is ∙ ap (λ (es : List Told). es ++ st.events) (sym (told_with gs st.book))));
             topologies_are = (gs, kept_now ∙ ap (λ (xs : List Rows). xs ++ gs) (ap topologies (st.is ∙ ap (λ (es : List Told). es ++ st.events) (sym (told_with gs st.book)))));
             ended = None;
@@ -134,17 +145,18 @@ module _ {F : Type 0} (written : F → Option (List ℕ)) (peers : List PeerRow)
         ∙ ap (λ (xs : List ℕ). head_line t part ++ xs) (sym (lines_more peers (told_in st.book) st.events e))
         ∙ ap (part_text peers t) (sym (same_part (st.events ++ e ∷ [])))
 
-    pub pushed : gs ≡ loaded_by e → (u : S) → u.file ≡ s.file → u.number ≡ s.number → u.name ≡ s.name → u.version ≡ s.version → u.loads ≡ s.loads + length gs → u.events ≡ s.events + 1 → u.tick ≡ tick_after s.tick e
+    pub pushed : gs ≡ loaded_by e → IsInRange e → (u : S) → u.file ≡ s.file → u.number ≡ s.number → u.name ≡ s.name → u.version ≡ s.version → u.loads ≡ s.loads + length gs → u.events ≡ s.events + 1 → u.tick ≡ tick_after s.tick e
         → u.pending ≡ s.pending ++ event_line peers u.loads e → Stands written peers t (before ++ e ∷ []) u d
-    pushed are u file number name version loads events tick pending =
-        let loaded : topologies (before ++ e ∷ []) ≡ topologies before ++ gs = topologies_more before e ∙ ap (λ (xs : List Rows). topologies before ++ xs) (sym are) in
-        let loads_now : u.loads ≡ load_count (before ++ e ∷ []) = loads ∙ ap (λ (n : ℕ). n + length gs) st.counted.loads_are ∙ sym (length-append (topologies before) gs) ∙ ap (λ (xs : List Rows). length xs) (sym loaded) in
+    pushed are in_range u file number name version loads events tick pending =
+        let topologies_now : topologies (before ++ e ∷ []) ≡ topologies before ++ gs = topologies_more before e ∙ ap (λ (xs : List Rows). topologies before ++ xs) (sym are) in
+        let loads_now : u.loads ≡ load_count (before ++ e ∷ []) = loads ∙ ap (λ (n : ℕ). n + length gs) st.counted.loads_are ∙ sym (length-append (topologies before) gs) ∙ ap (λ (xs : List Rows). length xs) (sym topologies_now) in
         record {
           book = book;
           moment = st.moment;
           events = st.events ++ e ∷ [];
           is_kept = now_kept;
-          topologies_are = kept_now ∙ sym loaded;
+          page = page_more st.moment st.events e st.page in_range;
+          topologies_are = kept_now ∙ sym topologies_now;
           is = ap (λ (es : List Told). es ++ e ∷ []) st.is ∙ append_assoc (told_in st.book) st.events (e ∷ []) ∙ ap (λ (es : List Told). es ++ (st.events ++ e ∷ [])) (sym (told_with gs st.book));
           counted = record {
             number_is = number ∙ st.counted.number_is ∙ ap (λ (n : ℕ). n + 1) (sym (count_with gs st.book));

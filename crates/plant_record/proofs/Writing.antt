@@ -1,14 +1,14 @@
 -- The events of a hand, one behind the other.
-use Rattle.std.proofs.Common.{◌≡◌, ℕ, ◌+◌, ◌≤◌, List, [], ◌∷◌, ◌++◌, length, drop, append_assoc, append-nil, Option, Some, None, Result, Ok, Err, refl, sym, ap, subst, ◌∙◌, arith, length-append, MatchResult, OnErr, OnOk}
+use Rattle.std.proofs.Common.{◌≡◌, ℕ, ◌+◌, ◌≤◌, List, [], ◌∷◌, ◌++◌, length, drop, append_assoc, append-nil, Option, Some, None, Result, Ok, Err, refl, sym, ap, subst, ◌∙◌, arith, length-append, OnErr, OnOk}
 use Rattle.std.proofs.lemmas.List.{drop_all}
-use Rattle.dom_edge.specs.Folders.{Contents, Makes}
+use Rattle.dom_edge.specs.Folders.{Contents}
 use Rattle.plant_text.specs.declared.settings.PeerRow.{PeerRow}
 use Rattle.event_tape.specs.declared.told.Told.{Told}
 use Rattle.plant_record.specs.Parts.{Title}
 use Rattle.plant_record.specs.Books.{Deed}
-use Rattle.plant_record.specs.Standing.{After, Breaks, ClosesPart, HasPart, IsBetween, IsCut, IsCutOff, IsFlushed, ScriptState, Stands}
+use Rattle.plant_record.specs.Standing.{After, Breaks, ClosesPart, HasPart, IsBetween, IsCutOff, IsFlushed, ScriptState, Stands}
 use Rattle.plant_record.specs.declared.fault.Fault.{Fault}
-use Rattle.plant_record.proofs.Standing.{begins_more, cut_off, flushed, stands_breaks}
+use Rattle.plant_record.proofs.Standing.{begins_more, cut_off, flushed}
 use Rattle.plant_record.proofs.Closing.{closed_part}
 
 module _ {F : Type 0} (written : F → Option (List ℕ)) (peers : List PeerRow) where
@@ -18,7 +18,7 @@ module _ {F : Type 0} (written : F → Option (List ℕ)) (peers : List PeerRow)
   part_more : (t : Title) (told more : List Told) (book : List Deed) (file : Option F) (number : ℕ) → HasPart written peers t told book file number → HasPart written peers t (told ++ more) book file number
   part_more t told more book None number is = begins_more told more _ is
   part_more t told more book (Some f) number (bytes, known, count, cut) =
-      (bytes, known, count, record { moment = cut.moment; events = cut.events; first = begins_more told more _ cut.first; topologies_are = cut.topologies_are; ended = cut.ended; begins = cut.begins })
+      (bytes, known, count, record { moment = cut.moment; events = cut.events; page = cut.page; first = begins_more told more _ cut.first; topologies_are = cut.topologies_are; ended = cut.ended; begins = cut.begins })
 
   pub breaks_more : (t : Title) (told more : List Told) (s : S) (c : Option Contents) → Breaks written peers t told s c → Breaks written peers t (told ++ more) s c
   breaks_more t told more s c b = record { book = b.book; is_kept = b.is_kept; has_part = part_more t told more b.book s.file s.number b.has_part }

@@ -7,7 +7,7 @@ use Rattle.event_tape.specs.declared.told.Told.{Told}
 use Rattle.event_tape.specs.declared.tape.Handed.{Handed}
 use Rattle.event_tape.specs.declared.tape.TapeEnd.{TapeEnd}
 use Rattle.plant_record.specs.Parts.{Title, topologies, part_text, part_name, tail_by}
-use Rattle.plant_record.specs.Books.{BeginsWith, Deed, File, IsBook, files, kept, next_part, part_count, told_in}
+use Rattle.plant_record.specs.Books.{BeginsWith, Deed, File, IsBook, IsPage, files, kept, next_part, part_count, told_in}
 use Rattle.plant_record.specs.Standing.{Breaks, IsCut, ScriptState, Stands}
 use Rattle.plant_record.specs.Faults.{HasReason}
 use Rattle.event_tape.specs.Hands.{AreWhole, told_of}
@@ -34,6 +34,7 @@ pub record IsWhole (peers : List PeerRow) (t : Title) (told : List Told) (ended 
   pub sound : IsBook book
   pub moment : List ℕ
   pub events : List Told
+  pub page : IsPage moment events
   pub all : told ≡ told_in book ++ events
   pub topologies_are : kept book ≡ topologies told
   pub contents : Contents

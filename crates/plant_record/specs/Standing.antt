@@ -1,5 +1,5 @@
 -- Where a record stands between two events, and behind a fault.
-use Rattle.std.specs.Prelude.{◌≡◌, ◌⊎◌, ℕ, ◌+◌, List, [], ◌∷◌, ◌++◌, length, Option, Some, None, MatchResult, is_ok, false}
+use Rattle.std.specs.Prelude.{◌≡◌, ◌⊎◌, ℕ, ◌+◌, List, [], ◌++◌, length, Option, Some, None, MatchResult, is_ok, false}
 use Rattle.std.specs.declared.result.Result.{Result}
 use Rattle.std.specs.Io.KnownBytes.{Appends}
 use Rattle.dom_edge.specs.Folders.{Contents, Closes}
@@ -9,7 +9,7 @@ use Rattle.plant_text.specs.declared.settings.PeerRow.{PeerRow}
 use Rattle.event_tape.specs.declared.told.Told.{Told}
 use Rattle.event_tape.specs.declared.tape.TapeEnd.{TapeEnd}
 use Rattle.plant_record.specs.Parts.{Title, part_name, topologies, load_count, last_tick, part_text, tail_by}
-use Rattle.plant_record.specs.Books.{BeginsWith, Deed, IsBook, files, kept, next_part, part_count, told_in}
+use Rattle.plant_record.specs.Books.{BeginsWith, Deed, IsBook, IsPage, files, kept, next_part, part_count, told_in}
 use Rattle.plant_record.specs.declared.fault.Fault.{Fault}
 
 -- a script that is written: the file of the part that is open, if one is, its number, what still waits to be written to it, what was counted, and its title
@@ -59,6 +59,7 @@ pub record Stands {F : Type 0} (written : F → Option (List ℕ)) (peers : List
   pub moment : List ℕ
   pub events : List Told
   pub is_kept : IsKept peers t book c
+  pub page : IsPage moment events
   pub topologies_are : kept book ≡ topologies told
   pub is : told ≡ told_in book ++ events
   pub counted : HasCounted t (part_count book + 1) told s
@@ -70,6 +71,7 @@ pub record Stands {F : Type 0} (written : F → Option (List ℕ)) (peers : List
 pub record IsCut (peers : List PeerRow) (t : Title) (told : List Told) (book : List Deed) (bytes : List ℕ) : Type 0 where
   pub moment : List ℕ
   pub events : List Told
+  pub page : IsPage moment events
   pub first : BeginsWith told (told_in book ++ events)
   pub topologies_are : BeginsWith (kept book) (topologies (told_in book ++ events))
   pub ended : Option TapeEnd

@@ -1,5 +1,5 @@
 -- What one hand does, and one turn.
-use Rattle.std.specs.Prelude.{◌≡◌, ◌≢◌, ℕ, ◌+◌, ◌≤◌, List, [], ◌∷◌, ◌++◌, length, Option, Some, None, Ok, Err, OnOk}
+use Rattle.std.specs.Prelude.{◌≡◌, ◌≢◌, ℕ, ◌+◌, ◌≤◌, List, [], ◌++◌, length, Option, Some, Ok, Err, OnOk}
 use Rattle.std.specs.declared.result.Result.{Result}
 use Rattle.dom_edge.specs.Folders.{Contents}
 use Rattle.plant_text.specs.declared.settings.PeerRow.{PeerRow}
@@ -10,7 +10,7 @@ use Rattle.plant_record.specs.Standing.{ScriptState, Stands}
 use Rattle.plant_record.specs.Recording.{Reaches}
 use Rattle.plant_record.specs.Faults.{HasReason}
 use Rattle.plant_record.specs.declared.recorded.Recorded.{Recorded}
-use Rattle.plant_record.specs.declared.recorded.Recorded.TheVariants.{Ended, Turns, Spent, Lost, Fault}
+use Rattle.plant_record.specs.declared.recorded.Recorded.TheVariants.{Ended, Turns, Lost, Fault}
 
 -- whatever was told before, the script goes on behind it with these events
 abbrev pub GoesOn : {F : Type 0} → (F → Option (List ℕ)) → List PeerRow → Recorded → ScriptState F → ScriptState F → Option Contents → Option Contents → List Told → Type 0

@@ -2,7 +2,7 @@
 ghost use Rattle.std.specs.Prelude.{◌≡◌, ◌+◌, ◌∷◌, [], OnErr, OnOk};
 ghost use Rattle.event_lines.specs.EventLines.{load_name as name_of_load};
 ghost use Rattle.te_text.specs.TopologyText.{topology_text};
-ghost use Rattle.plant_record.specs.Books.{Adds};
+ghost use Rattle.plant_record.specs.Books.{Adds, IsLoad};
 ghost use Rattle.plant_record.specs.Faults.{IsJudged};
 
 use crate::fault::Fault;
@@ -37,6 +37,7 @@ pub(crate) fn keep_topology<F: Folder>(
     topology: &Topology,
 ) -> Result<(), Fault>
     ensures ok { OnOk result (Adds (F.contents folder.old) (F.contents folder.new) ((name_of_load number, topology_text topology.now) ∷ [])) }
+    ensures load { OnOk result (IsLoad number topology.now) }
     ensures err { OnErr result (Adds (F.contents folder.old) (F.contents folder.new) []) }
     ensures judged { IsJudged F.File.faults (F.faults folder.old) (F.faults folder.new) result }
 {

@@ -2,7 +2,7 @@
 ghost use Rattle.std.specs.Prelude.{◌≡◌, ◌+◌, ◌++◌, ◌∷◌, [], List, IfOk, OnErr, OnOk, length};
 ghost use Rattle.plant_text.specs.declared.settings.PeerRow.{PeerRow};
 ghost use Rattle.event_tape.specs.declared.told.Told.{Told};
-ghost use Rattle.plant_record.specs.Books.{Adds, load_files};
+ghost use Rattle.plant_record.specs.Books.{Adds, AreLoads, load_files};
 ghost use Rattle.plant_record.specs.Faults.{IsJudged};
 ghost use Rattle.plant_record.specs.Parts.{Title, loaded_by, tick_after};
 ghost use Rattle.plant_record.specs.Standing.{After, Stands};
@@ -35,6 +35,7 @@ fn keep_load<F: Folder>(
     told: &Told,
 ) -> Result<u64, Fault>
     ensures ok { IfOk result (λ now. (now ≡ loads + length (loaded_by told.now)) × Adds (F.contents folder.old) (F.contents folder.new) (load_files loads (loaded_by told.now))) }
+    ensures loads { OnOk result (AreLoads loads (loaded_by told.now)) }
     ensures err { OnErr result (Adds (F.contents folder.old) (F.contents folder.new) []) }
     ensures judged { IsJudged F.File.faults (F.faults folder.old) (F.faults folder.new) result }
 {

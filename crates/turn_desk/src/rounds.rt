@@ -19,6 +19,8 @@ const TOLD: usize = 64;
 struct Counted {
     way: (As, As),
     messages: AtomicU64,
+    // not 0: more may wait there than are counted, until an ask finds none
+    has_uncounted: AtomicU64,
 }
 
 /// The ways of the carrier. Every thread adds to their counts; the carrier alone takes from them, and keeps the other words.
@@ -30,8 +32,10 @@ pub(crate) struct Rounds {
     is_due: AtomicU64,
     // how many ways of a whole round are still to be asked
     left: AtomicU64,
-    // the way that is asked, counted from 1, where a whole round asks it
+    // the way that was asked last, counted from 1, until a message is found there
     asked: AtomicU64,
+    // not 0: a whole round asked last
+    is_of_round: AtomicU64,
     // the way on which the last message was told
     last: AtomicU64,
 }
@@ -54,6 +58,7 @@ impl Rounds {
             is_due: AtomicU64::new(1),
             left: AtomicU64::new(0),
             asked: AtomicU64::new(0),
+            is_of_round: AtomicU64::new(0),
             last: AtomicU64::new(0),
         }
     }
@@ -65,6 +70,7 @@ impl Rounds {
             counted.push(Counted {
                 way: *way,
                 messages: AtomicU64::new(0),
+                has_uncounted: AtomicU64::new(0),
             })?;
         }
         let _again = self.ways.try_set(counted);
@@ -117,30 +123,51 @@ impl Rounds {
         None
     }
 
-    // The next way of a whole round of so many, where one is due or has begun.
+    fn at(&self, place: usize) -> Option<&Counted> {
+        match self.ways.get() {
+            Some(ways) => ways.get(place),
+            None => None,
+        }
+    }
+
+    // The next way of a whole round of so many, where one is due or has begun. More may wait there than are counted.
     fn next_of_round(&self, count: usize) -> Option<usize> {
         if self.is_due.swap(0, SeqCst) != 0 {
             self.left.store(count as u64, SeqCst);
         }
-        if take_one(&self.left) {
-            let place = self.left.load(SeqCst);
-            self.asked.store(place.saturating_add(1), SeqCst);
-            Some(place as usize)
-        } else {
-            None
+        if !take_one(&self.left) {
+            return None;
         }
+        let place = self.left.load(SeqCst) as usize;
+        if let Some(counted) = self.at(place) {
+            counted.has_uncounted.store(1, SeqCst);
+        }
+        Some(place)
     }
 
     // Where there are both, ways that were told and those of a whole round take turns.
     fn next(&self, count: usize) -> Option<usize> {
-        if self.asked.swap(0, SeqCst) != 0
+        if self.is_of_round.swap(0, SeqCst) != 0
             && let Some(place) = self.told()
         {
             return Some(place);
         }
         match self.next_of_round(count) {
-            Some(place) => Some(place),
+            Some(place) => {
+                self.is_of_round.store(1, SeqCst);
+                Some(place)
+            }
             None => self.told(),
+        }
+    }
+
+    // The way that was asked last had no message: whatever comes there now is told.
+    fn settle(&self) {
+        let asked = self.asked.swap(0, SeqCst);
+        if let Some(place) = asked.checked_sub(1)
+            && let Some(counted) = self.at(place as usize)
+        {
+            counted.has_uncounted.store(0, SeqCst);
         }
     }
 
@@ -148,6 +175,13 @@ impl Rounds {
     /// neither it waits, and makes a whole round where nobody rings. A ring that was left over ends one wait at once, so it waits
     /// twice.
     pub(crate) fn wait_for_way<R: Wait>(&self, rt: &R, count: usize) -> usize {
+        self.settle();
+        let place = self.wait_for_next(rt, count);
+        self.asked.store((place as u64).saturating_add(1), SeqCst);
+        place
+    }
+
+    fn wait_for_next<R: Wait>(&self, rt: &R, count: usize) -> usize {
         for _wait in 0..2 {
             if let Some(place) = self.next(count) {
                 return place;
@@ -161,13 +195,12 @@ impl Rounds {
         self.next(count).unwrap_or(0)
     }
 
-    /// A message was there: behind one that a whole round found there may be more.
+    /// A message was there. Where more may wait than are counted, the way is asked again until there is none.
     pub(crate) fn found(&self, place: usize) {
-        if self.asked.load(SeqCst) != (place as u64).saturating_add(1) {
-            return;
-        }
-        if let Some(ways) = self.ways.get()
-            && let Some(counted) = ways.get(place)
+        self.asked.store(0, SeqCst);
+        if let Some(counted) = self.at(place)
+            && counted.has_uncounted.load(SeqCst) != 0
+            && counted.messages.load(SeqCst) == 0
         {
             counted.messages.fetch_add(1, SeqCst);
         }

@@ -2,19 +2,19 @@ use Rattle.std.proofs.Common.{rules, inl, inr, ◌≡◌, ◌⊎◌, ◌∙◌, 
 use Rattle.logbook.specs.Pages.{Book}
 use Rattle.ted_watch.specs.declared.shown.Shown.{Shown}
 use Rattle.ted_watch.specs.Watch.{carried, list_of, list_told, published}
-use Rattle.turn_desk.specs.Desks.{Stand, split_from, stand_of}
+use Rattle.turn_desk.specs.Desks.{Stand, shares_at, split_from, stand_of}
 use Rattle.plant_text.specs.declared.settings.NetworkParts.{NetworkParts}
 use Rattle.network_serving.specs.Bases.{Base, Desk, Operator, Server, base_in, record_bases, server, watch_bases}
 use Rattle.network_serving.specs.Spawners.{bases, faults_of, started}
 use Rattle.network_serving.specs.declared.duties.Duty.{Duty}
-use Rattle.network_serving.specs.Duties.{first_duties, record_duties, watch_duties}
+use Rattle.network_serving.specs.Duties.{first_count, first_duties, record_duties, watch_duties}
 use Rattle.network_serving.proofs.Plans.{planned_bases, planned_new}
 use Rattle.network_serving.specs.Ports.{ports_of}
 use Rattle.network_serving.specs.Records.{HasFault, IsNoRecord, faults_in, is_asked}
 use Rattle.network_serving.specs.Starting.{Called, IsStartEnd, called}
 use Rattle.network_serving.specs.declared.served.Served.{Served}
 use Rattle.network_serving.specs.declared.served.Served.TheVariants as served
-use Rattle.network_serving.proofs.Starts.{bases_on, duties_on, recorded_bases_on, recorded_on, unstarted_end, unstarted_from, want_start, watched_end}
+use Rattle.network_serving.proofs.Starts.{bases_on, duties_on, recorded_bases_on, recorded_on, still_two, unstarted_end, unstarted_from, want_start, watched_end}
 use Rattle.network_serving.proofs.serving.start_network.Goals as goal
 
 pub returns-in_err-watches-clause-err : goal.returns-in_err-watches-clause-err
@@ -30,6 +30,11 @@ returns-in_err-watches-clause-err g c =
     let whole : IsNoRecord (HasFault g.G.File.Sink.faults (faults_in g.G.Folder.faults c.args.recording.now) (faults_in g.G.Folder.faults c.args.recording.now)) c.in_err-watches.field-0.0 ⊎ IsStartEnd (ports_of n) (called (g.Q.Ports.calls old, g.Q.Ports.calls new) (g.Q.Ports.faults old, g.Q.Ports.faults new) (g.Q.Ports.failed_at new)) (faults_of c.args.spawner.now, faults_of c.args.spawner.now) c.in_err-watches.field-0.0 = inr end in
     let from = c.from_residual-in_err-watches.ensures in
     search (rules, whole, from)
+
+pub desk_beside-requires : goal.desk_beside-requires
+desk_beside-requires g c = record {
+  seat = still_two (shares_at c.args.prepared.desk) (first_count c.args.prepared.network) (shares_at c.plan_tasks.new.desk) (shares_at c.plan_record.new.desk) c.requires.seats c.in_ok-tasks.ensures.seats c.in_ok-recorder.ensures.seat;
+}
 
 pub start_all-requires-clause-new : goal.start_all-requires-clause-new
 start_all-requires-clause-new g c κs within =

@@ -18,7 +18,7 @@ returns-in_err-loads-clause-after g c = λ t before st.
     let s = c.args.script.now in
     let d = g.F.Folder.contents c.keep_load.new.folder in
     let p = err_from_is_err_and c.from_residual.result c.from_residual.ensures.1 in
-    err_after written peers c.from_residual.result p.0 t (before ++ e ∷ []) s d p.1 (breaks_behind written peers t before e s (g.F.Folder.contents c.args.folder.now) d [] st c.in_err-loads.ensures.err s refl refl)
+    err_after written peers c.from_residual.result p.0 t (before ++ e ∷ []) s d p.1 (breaks_behind written peers t before e s (g.F.Folder.contents c.args.folder.now) d [] st tt c.in_err-loads.ensures.err s refl refl)
 
 pub returns-in_err-push_line-clause-after : goal.returns-in_err-push_line-clause-after
 returns-in_err-push_line-clause-after g c = λ t before st.
@@ -29,7 +29,7 @@ returns-in_err-push_line-clause-after g c = λ t before st.
     let d = g.F.Folder.contents c.keep_load.new.folder in
     let here = subst (λ (x : ScriptState _). Stands written peers t before x old) (sym c.script.view_is) st in
     let p = err_from_is_err_and c.from_residual-in_err-push_line.result c.from_residual-in_err-push_line.ensures.1 in
-    err_after written peers c.from_residual-in_err-push_line.result p.0 t (before ++ e ∷ []) _ d p.1 (breaks_behind written peers t before e _ old d (loaded_by e) here c.in_ok-loads.ensures.ok.1 _ refl refl)
+    err_after written peers c.from_residual-in_err-push_line.result p.0 t (before ++ e ∷ []) _ d p.1 (breaks_behind written peers t before e _ old d (loaded_by e) here c.in_ok-loads.ensures.loads c.in_ok-loads.ensures.ok.1 _ refl refl)
 
 pub returns-clause-after : goal.returns-clause-after
 returns-clause-after g c = λ t before st.
@@ -38,4 +38,4 @@ returns-clause-after g c = λ t before st.
     let e = c.args.told.now in
     let old = g.F.Folder.contents c.args.folder.now in
     let here = subst (λ (x : ScriptState _). Stands written peers t before x old) (sym c.script.view_is) st in
-    pushed written peers t before e _ old (g.F.Folder.contents c.keep_load.new.folder) (loaded_by e) here c.in_ok-loads.ensures.ok.1 refl _ refl refl refl refl c.in_ok-loads.ensures.ok.0 c.in-Some.ensures.1 c.tick_after-script-inside.ensures c.in_ok-push_line.ensures
+    pushed written peers t before e _ old (g.F.Folder.contents c.keep_load.new.folder) (loaded_by e) here c.in_ok-loads.ensures.loads c.in_ok-loads.ensures.ok.1 refl c.push_line.ensures.in_range _ refl refl refl refl c.in_ok-loads.ensures.ok.0 c.in-Some.ensures.1 c.tick_after-script-inside.ensures c.in_ok-push_line.ensures.line

@@ -1,4 +1,4 @@
-use Rattle.std.proofs.Common.{◌≡◌, List, Result, Err, ap}
+use Rattle.std.proofs.Common.{List, Result, Err, ap}
 use Rattle.event_tape.specs.declared.told.Told.{Told}
 use Rattle.plant_record.specs.declared.recorded.Recorded.{Recorded}
 use Rattle.plant_record.proofs.HandLaws.{none_run, one_run, run_ends}

@@ -1,9 +1,11 @@
 //! A script that comes in pieces: each line is played when it has come whole, and the script is never held.
-ghost use Rattle.std.specs.Prelude.{◌≡◌, ◌≤◌, IfErr, IfOk, OnOk};
+ghost use Rattle.std.specs.Prelude.{◌≡◌, ◌≤◌, ℕ, List, length, IfErr, IfOk, OnOk};
 ghost use Rattle.std.specs.Str.Lines.{strip_carriage_return};
 ghost use Rattle.plant_play.specs.Playing.{IsNewNetwork, played_network};
 ghost use Rattle.plant_play.specs.Replays.{DoesLine, IsReplayed, LineEnds, ReplayStops, is_told};
-ghost use Rattle.plant_play.specs.WholeScripts.{around};
+ghost use Rattle.transcript.specs.Stops.{line_most, numbered};
+ghost use Rattle.plant_play.specs.Logs.{untold};
+ghost use Rattle.plant_play.specs.WholeScripts.{HasEvent, around};
 
 use crate::cue::play_cue;
 use crate::log::Log;
@@ -42,7 +44,9 @@ fn without_return(line: &[u8]) -> &[u8]
 }
 
 // The log of a line, by whether it is told.
-fn log_of(alloc: Global, is_told: bool) -> Log {
+fn log_of(alloc: Global, is_told: bool) -> Log
+    ensures { result ≡ untold is_told }
+{
     if is_told {
         Log::kept(alloc)
     } else {
@@ -59,7 +63,13 @@ fn play_event<S: Store, K: Sink>(
     number: u32,
     event: LineEvent,
     out: &mut K,
-) -> Result<(), Stop> {
+) -> Result<(), Stop>
+    ensures does { OnOk result ((text : List ℕ) → HasEvent (played_network player.old).network (numbered number text) event → DoesLine span (around (S.files store.old) (K.written out.old, K.written out.new) (S.faults store.old, S.faults store.new) (K.faults out.old, K.faults out.new) (S.failed_at store.new)) (played_network player.old).network number text (played_network player.old) (played_network player.new)) }
+    ensures ends { IfErr result (λ why. (text : List ℕ) → HasEvent (played_network player.old).network (numbered number text) event → LineEnds span (around (S.files store.old) (K.written out.old, K.written out.new) (S.faults store.old, S.faults store.new) (K.faults out.old, K.faults out.new) (S.failed_at store.new)) (played_network player.old).network number text (played_network player.old) (played_network player.new) why) }
+    ensures files { S.files store.new ≡ S.files store.old }
+    ensures later { S.faults store.old ≤ S.faults store.new }
+    ensures after { K.faults out.old ≤ K.faults out.new }
+{
     let log = log_of(alloc, is_told(span, number));
     let (_answer, told) = play_cue(alloc, store, player, number, event, log)?;
     match write_all(out, told.text()) {
@@ -78,6 +88,7 @@ fn play_text<S: Store, K: Sink>(
     text: &[u8],
     out: &mut K,
 ) -> Result<(), Stop>
+    requires within { length text.now ≤ line_most }
     ensures does { OnOk result (DoesLine span (around (S.files store.old) (K.written out.old, K.written out.new) (S.faults store.old, S.faults store.new) (K.faults out.old, K.faults out.new) (S.failed_at store.new)) (played_network player.old).network number text.now (played_network player.old) (played_network player.new)) }
     ensures ends { IfErr result (LineEnds span (around (S.files store.old) (K.written out.old, K.written out.new) (S.faults store.old, S.faults store.new) (K.faults out.old, K.faults out.new) (S.failed_at store.new)) (played_network player.old).network number text.now (played_network player.old) (played_network player.new)) }
     ensures files { S.files store.new ≡ S.files store.old }
