@@ -70,7 +70,7 @@ obeyed_of [] none = All-nil IsUnbroken
 obeyed_of ((true, x) ∷ rs) none = absurd (let no : Some x ≡ None = none in cc)
 obeyed_of ((false, x) ∷ rs) none = All-cons IsUnbroken (false, x) rs refl (obeyed_of rs none)
 
-rules_hold : (bytes : List ℕ) (n : NetworkParts) → Reads bytes n → AreObeyed (rules_of n)
+pub rules_hold : (bytes : List ℕ) (n : NetworkParts) → Reads bytes n → AreObeyed (rules_of n)
 rules_hold bytes n r =
     let s = sheet_in r.root in
     subst (λ (m : NetworkParts). AreObeyed (rules_of m)) (sym r.rows) (obeyed_of (rules_of s.parts) (settings_clear s (none_of (rules s) r.obeyed)))

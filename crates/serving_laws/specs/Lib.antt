@@ -1,0 +1,2 @@
+-- for readers
+pub mod Mornings
