@@ -1,5 +1,5 @@
 -- Behind loads of different elements each has the topology that it loaded.
-use Rattle.std.proofs.Common.{◌≡◌, ◌≢◌, ◌∙◌, ℕ, suc, Bool, true, false, cond, ◌==◌, List, [], ◌∷◌, ◌++◌, map, reverse, Option, Some, None, Ok, Err, refl, sym, ap, subst, inl, inr, append_assoc, arith}
+use Rattle.std.proofs.Common.{◌≡◌, ◌≢◌, ◌∙◌, ℕ, suc, Bool, true, false, cond, List, [], ◌∷◌, ◌++◌, map, reverse, refl, sym, ap, subst, inl, inr, arith}
 use Rattle.std.specs.List.{AllByRecursion}
 use Rattle.std.proofs.lemmas.Bool.{ne_eqb}
 use Rattle.std.proofs.lemmas.List.{map-append, reverse-append, reverse-reverse}
@@ -10,10 +10,8 @@ use Rattle.plant_text.specs.declared.settings.NetworkParts.{NetworkParts}
 use Rattle.plant_network.specs.plant_model.Types.{As}
 use Rattle.plant_network.specs.plant_model.declared.event.Event.{Event}
 use Rattle.plant_network.specs.plant_model.declared.event.Event.TheVariants as event
-use Rattle.plant_network.specs.plant_model.declared.outcome.Outcome.TheVariants.{Loaded}
 use Rattle.plant_network.specs.plant_model.declared.outcome.Refused.{Refused}
 use Rattle.plant_network.specs.plant_model.declared.outcome.Refused.TheVariants as refused
-use Rattle.plant_network.specs.plant_model.Names.{set_as}
 use Rattle.plant_network.specs.plant_model.Blind.{is_accepted}
 use Rattle.plant_network.specs.plant_model.Events.{Answered}
 use Rattle.plant_network.specs.plant_model.Plant.{Entry, Happened, Pin, Plant, Run, Steps, is_full, load_new, refused as no_load}

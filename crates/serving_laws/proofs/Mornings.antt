@@ -1,20 +1,15 @@
 -- What is seen at the lock of a server that writes a record is a day.
-use Rattle.std.proofs.Common.{◌≡◌, ◌≢◌, ◌∙◌, ℕ, suc, ◌<◌, true, length, get_or, List, [], ◌∷◌, ◌++◌, map, reverse, Option, Some, None, AllPairs, refl, sym, ap, subst, arith}
-use Rattle.std.specs.List.{AllByRecursion, cons_option, filter_map}
+use Rattle.std.proofs.Common.{◌≡◌, ◌≢◌, ◌∙◌, ℕ, suc, true, List, [], ◌∷◌, ◌++◌, map, reverse, Option, Some, None, AllPairs, sym, ap, subst, arith}
+use Rattle.std.specs.List.{AllByRecursion, cons_option}
 use Rattle.std.specs.Option.{option_map}
 use Rattle.std.proofs.lemmas.List.{map-append, reverse-reverse}
 use Rattle.std.proofs.lemmas.List.Elements.{recursion_from_All}
-use Rattle.dom_edge.specs.Stores.{Files}
 use Rattle.te_links.specs.Rows.{Rows}
-use Rattle.plant_text.specs.Faults.{AreObeyed}
-use Rattle.plant_text.specs.Rules.{rules_of}
 use Rattle.plant_text.specs.declared.settings.ElementRow.{ElementRow}
-use Rattle.plant_text.specs.declared.settings.NetworkParts.{NetworkParts}
 use Rattle.plant_text.proofs.SettingLaws.{rules_are_worth}
 use Rattle.event_tape.specs.Tapes.{event_of}
 use Rattle.event_tape.specs.declared.told.Told.{Told}
 use Rattle.plant_lock.specs.Views.{LegalFrom}
-use Rattle.plant_network.specs.Histories.{AreGiven, done_by}
 use Rattle.plant_network.specs.Topologies.{Held, whole}
 use Rattle.plant_network.specs.Whole.{Whole}
 use Rattle.plant_network.specs.plant_model.Types.{As}
@@ -22,19 +17,14 @@ use Rattle.plant_network.specs.plant_model.declared.event.Event.{Event}
 use Rattle.plant_network.specs.plant_model.declared.event.Event.TheVariants as event
 use Rattle.plant_network.specs.plant_model.Plant.{Run}
 use Rattle.plant_network.specs.plant_model.RealWire.{wire}
-use Rattle.told_laws.specs.Telling.{told}
-use Rattle.kept_plant.specs.Histories.{turns_of}
 use Rattle.kept_plant.specs.Turns.{KeptAdmits, KeptAllows, kept_after, kept_of}
 use Rattle.kept_plant.specs.declared.kept.KeptPlant.{KeptPlant}
-use Rattle.turn_desk.specs.Desks.{Stand, opened_by, stand_on}
+use Rattle.turn_desk.specs.Desks.{Stand}
 use Rattle.turn_desk.specs.Histories.{plant_at}
-use Rattle.turn_desk.specs.Seats.{Seated}
-use Rattle.network_serving.specs.Bases.{IsReady, Server}
-use Rattle.network_serving.specs.Loaded.{IsLoaded, Load, load_event, load_events, named, place_of}
+use Rattle.network_serving.specs.Loaded.{IsLoaded, Load, named, place_of}
 use Rattle.network_serving.specs.Records.{AreFirst, HasTapeOf, IsFirst, IsTapeOf}
-use Rattle.record_laws.specs.Days.{IsDay, events_by}
 use Rattle.record_laws.proofs.Replaying.{rules_hold}
-use Rattle.serving_laws.specs.Mornings.{IsMorning, ServersHaveDays}
+use Rattle.serving_laws.specs.Mornings.{ServersHaveDays}
 use Rattle.serving_laws.proofs.Loads.{AllDiffer, AreCurrent, DifferFrom, differ_reversed, events_reversed, all_reversed, loaded, loads_current, loads_told}
 
 -- ---- elements differ, so do loads

@@ -1,2 +1,3 @@
 -- for readers
 pub mod Mornings
+pub mod Evenings

@@ -3,4 +3,4 @@
 
 mod laws;
 
-pub use laws::servers_have_days;
+pub use laws::{served_records_are_replayed, servers_have_days};
