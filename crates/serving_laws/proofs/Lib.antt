@@ -1,3 +1,3 @@
 pub mod Loads
-pub mod Mornings
-pub mod Evenings
+pub mod Opening
+pub mod Writing

@@ -1,3 +1,3 @@
 -- for readers
-pub mod Mornings
-pub mod Evenings
+pub mod Opening
+pub mod Writing

@@ -1,6 +1,6 @@
 //! Laws of a server that writes a record.
-ghost use Rattle.serving_laws.specs.Evenings.{ServedRecordsAreReplayed};
-ghost use Rattle.serving_laws.specs.Mornings.{ServersHaveDays};
+ghost use Rattle.serving_laws.specs.Writing.{ServedRecordsAreReplayed};
+ghost use Rattle.serving_laws.specs.Opening.{ServersHaveDays};
 
 use record_laws::records_are_replayed;
 

@@ -24,7 +24,7 @@ use Rattle.turn_desk.specs.Histories.{plant_at}
 use Rattle.network_serving.specs.Loaded.{IsLoaded, Load, named, place_of}
 use Rattle.network_serving.specs.Records.{AreFirst, HasTapeOf, IsFirst, IsTapeOf}
 use Rattle.record_laws.proofs.Replaying.{rules_hold}
-use Rattle.serving_laws.specs.Mornings.{ServersHaveDays}
+use Rattle.serving_laws.specs.Opening.{ServersHaveDays}
 use Rattle.serving_laws.proofs.Loads.{AllDiffer, AreCurrent, DifferFrom, differ_reversed, events_reversed, all_reversed, loaded, loads_current, loads_told}
 
 -- ---- elements differ, so do loads

@@ -23,11 +23,11 @@ use Rattle.record_laws.specs.plant_play.Playing.{PlayedNetwork}
 use Rattle.record_laws.specs.plant_play.Replays.{Replaying}
 use Rattle.record_laws.specs.plant_play.Turns.{Turn, entries_of}
 use Rattle.record_laws.specs.plant_play.declared.replaying.Span.{Span}
-use Rattle.serving_laws.specs.Mornings.{IsMorning}
+use Rattle.serving_laws.specs.Opening.{IsOpening}
 
 -- What the seat of a recorder stands for behind its last turn: all that it has seen of the lock that was opened so, at which places it
 -- stood itself; and the files of what it was handed, however that ended. One hand may come last that is not written.
-pub record IsEvening (n : NetworkParts) (first s : Seated) (c : Contents) : Type 0 where
+pub record IsWriter (n : NetworkParts) (first s : Seated) (c : Contents) : Type 0 where
   pub start : s.start ≡ first.start
   pub legal : LegalFrom kept_of KeptAdmits KeptAllows kept_after s.start s.seen
   pub given : AreGiven (turns_of s.seen)
@@ -45,6 +45,6 @@ pub record IsEvening (n : NetworkParts) (first s : Seated) (c : Contents) : Type
 -- The lines of the record of a server, the first ones, however many, that are played beside its files on a new network of its settings.
 abbrev pub ServedRecordsAreReplayed : Type 0
 ServedRecordsAreReplayed =
-    (files : Option Files) (n : NetworkParts) (x : Server) (first : Seated) → (m : IsMorning files n x first) → (kept : KeptPlant) → first.start ≡ Some kept → (s : Seated) (c : Contents) → IsEvening n first s c →
+    (files : Option Files) (n : NetworkParts) (x : Server) (first : Seated) → (opened : IsOpening files n x first) → (kept : KeptPlant) → first.start ≡ Some kept → (s : Seated) (c : Contents) → IsWriter n first s c →
     (held : Files) → HoldsAll held c.closed → (lines : List (List ℕ)) → AreFirstLines n c lines → (span : Option Span) (turns : List Turn) (text : List ℕ) (end : PlayedNetwork) → Replaying (Some held) span n lines turns text end →
-    IsReplayed n m.ready.loaded.entries (kept_of kept) s.seen (entries_of turns []) end.state
+    IsReplayed n opened.ready.loaded.entries (kept_of kept) s.seen (entries_of turns []) end.state

@@ -15,7 +15,7 @@ use Rattle.network_serving.specs.Records.{IsTapedSo}
 use Rattle.record_laws.specs.Days.{IsDay}
 
 -- A server of these settings, where a record is asked for, is ready, and this is the first seat at its lock.
-pub record IsMorning (files : Option Files) (n : NetworkParts) (x : Server) (first : Seated) : Type 0 where
+pub record IsOpening (files : Option Files) (n : NetworkParts) (x : Server) (first : Seated) : Type 0 where
   pub settings : List ℕ
   pub reads : Reads settings n
   pub ready : IsReady files n x
@@ -26,5 +26,5 @@ pub record IsMorning (files : Option Files) (n : NetworkParts) (x : Server) (fir
 -- its type says.
 abbrev pub ServersHaveDays : Type 0
 ServersHaveDays =
-    (files : Option Files) (n : NetworkParts) (x : Server) (first : Seated) → (m : IsMorning files n x first) → (kept : KeptPlant) → first.start ≡ Some kept → (s : Seated) → s.start ≡ first.start →
-    LegalFrom kept_of KeptAdmits KeptAllows kept_after s.start s.seen → AreGiven (turns_of s.seen) → IsDay n m.ready.loaded.entries (kept_of kept) s.seen
+    (files : Option Files) (n : NetworkParts) (x : Server) (first : Seated) → (opened : IsOpening files n x first) → (kept : KeptPlant) → first.start ≡ Some kept → (s : Seated) → s.start ≡ first.start →
+    LegalFrom kept_of KeptAdmits KeptAllows kept_after s.start s.seen → AreGiven (turns_of s.seen) → IsDay n opened.ready.loaded.entries (kept_of kept) s.seen

@@ -14,8 +14,8 @@ use Rattle.network_serving.specs.Records.{HasTapeOf, IsTapeOf}
 use Rattle.record_laws.specs.Days.{AreHandsOf}
 use Rattle.record_laws.specs.Replayed.{RecordsAreReplayed}
 use Rattle.record_laws.proofs.Leaving.{ends_are_records}
-use Rattle.serving_laws.specs.Evenings.{ServedRecordsAreReplayed}
-use Rattle.serving_laws.proofs.Mornings.{servers_have_days}
+use Rattle.serving_laws.specs.Writing.{ServedRecordsAreReplayed}
+use Rattle.serving_laws.proofs.Opening.{servers_have_days}
 
 among_front : (hs own stray : List Handed) → AreAmong (own ++ stray) hs → AreAmong own hs
 among_front hs [] stray all = tt
