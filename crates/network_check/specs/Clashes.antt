@@ -160,8 +160,13 @@ abbrev pub parent_clashes : Case → Option Data → List ℕ
 parent_clashes b None = []
 parent_clashes b (Some d) = table_clashes b Parent (elements_of b.root) 0 (as_table d)
 
-abbrev pub clashes_text : Case → List ℕ
-clashes_text b =
+abbrev pub tables_clashes : Case → List ℕ
+tables_clashes b =
     section_clashes b Elements ELEMENTS_MAX (elements_of b.root) ++ (section_clashes b Links LINKS_MAX (rows_in (get_member (codes "link") b.root))
-    ++ (section_clashes b Peers PEERS_MAX (rows_in (get_member (codes "peer") b.root)) ++ (section_clashes b Denials DENY_MAX (rows_in (get_member (codes "deny") b.root))
-    ++ (parent_clashes b (get_member (codes "parent") b.root) ++ section_clashes b ParentLinks PARENT_LINKS_MAX (parent_links_of b.root)))))
+    ++ (section_clashes b Peers PEERS_MAX (rows_in (get_member (codes "peer") b.root)) ++ section_clashes b Denials DENY_MAX (rows_in (get_member (codes "deny") b.root))))
+
+abbrev pub family_clashes : Case → List ℕ
+family_clashes b = parent_clashes b (get_member (codes "parent") b.root) ++ section_clashes b ParentLinks PARENT_LINKS_MAX (parent_links_of b.root)
+
+abbrev pub clashes_text : Case → List ℕ
+clashes_text b = tables_clashes b ++ family_clashes b

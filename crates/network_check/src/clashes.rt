@@ -6,7 +6,7 @@ ghost use Rattle.std.specs.Str.Lines.{lines as lines_of};
 ghost use Rattle.toml.specs.Data.{as_table as table_in, get_member};
 ghost use Rattle.toml.specs.View.{table_view, view};
 ghost use Rattle.plant_text.specs.SettingsText.{is_table};
-ghost use Rattle.network_check.specs.Clashes.{are_known as are_all_known, broken_of, clash_text, clash_words as words_of_clash, clashes_text, count_clash, elements_of as elements_in, has_row, is_element as has_element, is_first as tells_first, is_like as is_like_row, is_nobody as is_nobody_there, is_own as is_own_row, is_such, is_too_many as tells_too_many, knows_domain, lacks_parent as lacks_a_parent, names_nobody as names_nobody_there, parent_clashes, parent_links_of, repeats as repeats_row, rows_clashes, rows_in, same_ends as have_same_ends, same_way as have_same_way, section_clashes, table_clashes};
+ghost use Rattle.network_check.specs.Clashes.{are_known as are_all_known, broken_of, clash_text, clash_words as words_of_clash, clashes_text, count_clash, elements_of as elements_in, family_clashes, has_row, is_element as has_element, is_first as tells_first, is_like as is_like_row, is_nobody as is_nobody_there, is_own as is_own_row, is_such, is_too_many as tells_too_many, knows_domain, lacks_parent as lacks_a_parent, names_nobody as names_nobody_there, parent_clashes, parent_links_of, repeats as repeats_row, rows_clashes, rows_in, same_ends as have_same_ends, same_way as have_same_way, section_clashes, table_clashes, tables_clashes};
 
 use crate::keys::{
     agree_domains, domain_at, has_yes, meet, same_address, same_domain, same_text, value_at, way_of,
@@ -398,6 +398,33 @@ fn parent_links(root: &Table) -> &[Value]
     }
 }
 
+fn tell_tables(alloc: Global, broken: &Broken<'_>, into: &mut Vec<u8>) -> Result<(), NoMemory>
+    requires short { length (lines_of broken.now.page.text.now) < 2 ^ 32 }
+    ensures { OnOk result (into.new.items ≡ into.old.items ++ tables_clashes (broken_of broken.now)) }
+{
+    let root = broken.root;
+    let elements = elements_of(root);
+    let links = rows_of(value_at(root, "link"));
+    let peers = rows_of(value_at(root, "peer"));
+    let deny = rows_of(value_at(root, "deny"));
+    let most = ELEMENTS_MAX;
+    tell_section(alloc, broken, Section::Elements, most, elements, into)?;
+    tell_section(alloc, broken, Section::Links, LINKS_MAX, links, into)?;
+    tell_section(alloc, broken, Section::Peers, PEERS_MAX, peers, into)?;
+    tell_section(alloc, broken, Section::Denials, DENY_MAX, deny, into)
+}
+
+// The parent, and the links that it knows.
+fn tell_family(alloc: Global, broken: &Broken<'_>, into: &mut Vec<u8>) -> Result<(), NoMemory>
+    requires short { length (lines_of broken.now.page.text.now) < 2 ^ 32 }
+    ensures { OnOk result (into.new.items ≡ into.old.items ++ family_clashes (broken_of broken.now)) }
+{
+    let most = PARENT_LINKS_MAX;
+    let links = parent_links(broken.root);
+    tell_parent(alloc, broken, value_at(broken.root, "parent"), into)?;
+    tell_section(alloc, broken, Section::ParentLinks, most, links, into)
+}
+
 /// Each row that breaks a rule about the rows beside it, but for the first rule that is broken.
 pub(crate) fn tell_clashes(
     alloc: Global,
@@ -407,30 +434,6 @@ pub(crate) fn tell_clashes(
     requires short { length (lines_of broken.now.page.text.now) < 2 ^ 32 }
     ensures { OnOk result (into.new.items ≡ into.old.items ++ clashes_text (broken_of broken.now)) }
 {
-    let root = broken.root;
-    let elements = elements_of(root);
-    let links = rows_of(value_at(root, "link"));
-    let peers = rows_of(value_at(root, "peer"));
-    let deny = rows_of(value_at(root, "deny"));
-    let known = parent_links(root);
-    tell_section(
-        alloc,
-        broken,
-        Section::Elements,
-        ELEMENTS_MAX,
-        elements,
-        into,
-    )?;
-    tell_section(alloc, broken, Section::Links, LINKS_MAX, links, into)?;
-    tell_section(alloc, broken, Section::Peers, PEERS_MAX, peers, into)?;
-    tell_section(alloc, broken, Section::Denials, DENY_MAX, deny, into)?;
-    tell_parent(alloc, broken, value_at(root, "parent"), into)?;
-    tell_section(
-        alloc,
-        broken,
-        Section::ParentLinks,
-        PARENT_LINKS_MAX,
-        known,
-        into,
-    )
+    tell_tables(alloc, broken, into)?;
+    tell_family(alloc, broken, into)
 }
