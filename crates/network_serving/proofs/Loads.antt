@@ -1,7 +1,7 @@
 -- Topologies are loaded into a network that has just been made, and shown.
 use Rattle.std.proofs.Common.{◌≡◌, ◌≢◌, ◌∙◌, ◌⊎◌, inl, inr, ◌+◌, ◌≤◌, ◌<◌, ◌==◌, ℕ, zero, suc, Bool, true, false, cond, ◌||◌, eqb, eqb-true, eq-eqb, true≢false, is_some, List, [], ◌∷◌, ◌++◌, length, map, filter, take, get_or, All, AllPairs, option_map, ap, refl, sym, subst, arith, append-nil, Option, Some, None, Ok}
 use mathlib.Core.List.{IsPrefix}
-use Rattle.std.specs.List.{AllByRecursion, cons_option, filter_map, last_or}
+use Rattle.std.specs.List.{AllByRecursion, cons_option, last_or}
 use Rattle.std.specs.Set.{is_member}
 use Rattle.std.proofs.lemmas.Bool.{ne_eqb}
 use Rattle.std.proofs.lemmas.List.{length-map, map-append, take_more}
@@ -23,14 +23,13 @@ use Rattle.plant_network.specs.plant_model.declared.event.Event.{Event}
 use Rattle.plant_network.specs.plant_model.declared.event.Event.TheVariants as event
 use Rattle.plant_network.specs.plant_model.declared.outcome.Outcome.TheVariants.{Loaded}
 use Rattle.plant_network.specs.plant_model.Events.{Answered}
-use Rattle.plant_network.specs.plant_model.Plant.{AreInRange, Entry, IsGiven, PlantDeed, Run}
+use Rattle.plant_network.specs.plant_model.Plant.{IsGiven, PlantDeed, Run}
 use Rattle.plant_network.specs.plant_model.RealWire.{wire}
-use Rattle.plant_network.specs.Histories.{done_by}
 use Rattle.plant_network.specs.Topologies.{Held, whole}
 use Rattle.plant_network.specs.Whole.{GoesOn, IsBegun, Stepped, Whole}
 use Rattle.run_laws.proofs.TextLemmas.RowRanges.{text_in_range}
 use Rattle.ted_watch.specs.declared.shown.Shown.{Shown}
-use Rattle.ted_watch.specs.Published.{IsAbove, MayFollow, as_count, is_of, last_of}
+use Rattle.ted_watch.specs.Published.{IsAbove, MayFollow, is_of, last_of}
 use Rattle.ted_watch.proofs.Few.{few_among}
 use Rattle.server_loops.specs.Operating.{AreOfElements}
 use Rattle.server_loops.proofs.Turning.{all_on}

@@ -1,13 +1,13 @@
 -- The histories of a server's lock are runs.
-use Rattle.std.proofs.Common.{◌≡◌, ◌∙◌, ◌⊎◌, ℕ, List, [], ◌∷◌, ◌++◌, append-nil, map, Option, Some, ap, refl, subst, sym}
+use Rattle.std.proofs.Common.{◌≡◌, ◌∙◌, ℕ, List, [], ◌∷◌, ◌++◌, Option, Some, ap, refl, subst, sym}
 use Rattle.dom_edge.specs.Stores.{Files}
 use Rattle.plant_lock.specs.History.{Legal, replay}
 use Rattle.plant_lock.specs.Views.{LegalFrom}
 use Rattle.plant_network.specs.plant_model.declared.event.Event.{Event}
 use Rattle.plant_network.specs.plant_model.Events.{Answered}
-use Rattle.plant_network.specs.plant_model.Plant.{Entry, Plant, Run}
+use Rattle.plant_network.specs.plant_model.Plant.{Plant, Run}
 use Rattle.plant_network.specs.plant_model.RealWire.{wire}
-use Rattle.plant_network.specs.Histories.{AreGiven, done_by, events_of}
+use Rattle.plant_network.specs.Histories.{AreGiven}
 use Rattle.plant_network.specs.Topologies.{Held, whole}
 use Rattle.plant_network.specs.Turns.{Admits, Allowed, left_by}
 use Rattle.plant_network.proofs.HistoryLemmas.{histories_are_runs}

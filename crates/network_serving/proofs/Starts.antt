@@ -1,6 +1,6 @@
 -- Causes of a start, from its parts.
 use Rattle.std.proofs.lemmas.Bool.{ltb-false, ltb-true}
-use Rattle.std.proofs.Common.{Bool, true, false, nat_lt, if◌then◌else◌, ◌≡◌, ◌∙◌, ◌⊎◌, inl, inr, ◌+◌, ◌-◌, ◌^◌, ◌≤◌, ◌<◌, ℕ, zero, suc, min, List, [], ◌∷◌, ◌++◌, length, map, ap, refl, sym, subst, arith, append_assoc, Option, Some, None}
+use Rattle.std.proofs.Common.{Bool, true, false, nat_lt, if◌then◌else◌, ◌≡◌, ◌∙◌, ◌⊎◌, inl, inr, ◌+◌, ◌≤◌, ◌<◌, ℕ, zero, suc, List, [], ◌∷◌, ◌++◌, length, map, ap, refl, sym, subst, arith, append_assoc, Option, Some, None}
 use Rattle.std.specs.Prelude.{slice_get}
 use Rattle.std.proofs.lemmas.List.{length-map}
 use Rattle.dom_base.specs.declared.names.As.{As}
@@ -164,6 +164,10 @@ no_other_end : (files : Option Files) (at : As) (topology : Option (List ℕ)) (
 no_other_end files at None counts failed_at s want none is = want is
 no_other_end files at (Some name) counts failed_at s want none is = none name is
 
+module _ (w : World) (name : List ℕ) where
+  pub all_served : (made : ℕ) (n : NetworkParts) (x : Server) → HasNetwork w.files name n → AreApart n → IsReady w.files n x → w.started.1 ≡ w.started.0 ++ (duties_of n ++ record_duties w.recorded) → w.bases.1 ≡ w.bases.0 ++ (bases_of n x ++ record_bases w.recorded x.desk) → RoseBy made w.readings → (s : Stand) → w.told ≡ Some s → IsAtLock x.desk s → TellsTime made (desked_of x.desk) (desked_of s) w.last.0 w.last.1 → IsServed w name made
+  all_served made n x has apart ready duties behind read s by at tells = record { network = n; has = has; apart = apart; duties = duties; server = x; ready = ready; runs = λ s at given. is_run w.files n x ready s at given; behind = behind; read = read; told = s; by = by; at = at; tells = tells }
+
 module _ (w : World) (Unrecorded : Type 0) (name : List ℕ) (turns : ℕ) where
   abbrev Load : Served → Type 0
   Load s = IsLoadEnd w.files name w.store_faults w.failed_at s
@@ -193,9 +197,6 @@ module _ (w : World) (Unrecorded : Type 0) (name : List ℕ) (turns : ℕ) where
     | inl file ↦ absurd file
     | inr network ↦ elim network.ends [ inl port' ↦ absurd port' | inr topology ↦ absurd (no_other_end w.files topology.row.own topology.row.topology w.store_faults w.failed_at served.NoThread (λ e. let no : ⊥ = cc in no) (λ n e. e) topology.ends) ]
   ]
-
-  pub all_served : (made : ℕ) (n : NetworkParts) (x : Server) → HasNetwork w.files name n → AreApart n → IsReady w.files n x → w.started.1 ≡ w.started.0 ++ (duties_of n ++ record_duties w.recorded) → w.bases.1 ≡ w.bases.0 ++ (bases_of n x ++ record_bases w.recorded x.desk) → RoseBy made w.readings → (s : Stand) → w.told ≡ Some s → IsAtLock x.desk s → TellsTime made (desked_of x.desk) (desked_of s) w.last.0 w.last.1 → IsServed w name made
-  all_served made n x has apart ready duties behind read s by at tells = record { network = n; has = has; apart = apart; duties = duties; server = x; ready = ready; runs = λ s at given. is_run w.files n x ready s at given; behind = behind; read = read; told = s; by = by; at = at; tells = tells }
 
   -- the time was told in so many turns
   pub told_so : (made : ℕ) (s : Served) → made ≤ turns → IsServed w name made → s ≡ (if nat_lt made turns then served.Stopped else served.Turns) → Ends w Unrecorded name turns s

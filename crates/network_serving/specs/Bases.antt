@@ -1,5 +1,5 @@
 -- The desks, settings and published lists that the tasks of a server stand on.
-use Rattle.std.specs.Prelude.{◌≡◌, ℕ, Bool, List, [], ◌∷◌, ◌++◌, map, Option, Some, None}
+use Rattle.std.specs.Prelude.{ℕ, Bool, List, ◌∷◌, ◌++◌, map, Option}
 use Rattle.dom_edge.specs.Stores.{Files}
 use Rattle.logbook.specs.Pages.{Book}
 use Rattle.plant_network.specs.Topologies.{Held, whole}

@@ -1,5 +1,5 @@
 -- Why a file stops a server from starting: the settings, or a topology that they name.
-use Rattle.std.specs.Prelude.{◌≡◌, ◌⊎◌, ◌≤◌, ℕ, List, Contains, Option, Some, None}
+use Rattle.std.specs.Prelude.{◌≡◌, ◌⊎◌, ℕ, List, Contains, Option, Some, None}
 use Rattle.dom_base.specs.declared.names.As.{As}
 use Rattle.dom_edge.specs.Causes.{Rose}
 use Rattle.dom_edge.specs.Stores.{Files, IfFile, IsLongFile}

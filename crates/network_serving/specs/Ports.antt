@@ -1,5 +1,5 @@
 -- Peers that a server could not tell apart, and the ports that are opened in their order.
-use Rattle.std.specs.Prelude.{◌≡◌, ◌⊎◌, ◌<◌, ℕ, Bool, true, false, List, [], ◌∷◌, ◌++◌, codes, map, slice_get, take, Option, Some, None, IfSome, replicate}
+use Rattle.std.specs.Prelude.{◌≡◌, ◌⊎◌, ◌<◌, ℕ, Bool, true, false, List, [], ◌++◌, codes, map, slice_get, take, Option, Some, None, IfSome, replicate}
 use Rattle.std.specs.List.{list_any}
 use Rattle.dom_base.specs.declared.addr.Addr.{Addr}
 use Rattle.plant_text.specs.declared.fault.NetFault.{NetFault}

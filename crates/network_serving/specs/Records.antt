@@ -1,5 +1,5 @@
 -- A record that a server writes: what its desk handed out, and what became of that.
-use Rattle.std.specs.Prelude.{◌≡◌, ◌⊎◌, ◌++◌, ◌∷◌, ◌^◌, ◌-◌, [], ℕ, Bool, true, false, List, map, Option, Some, None}
+use Rattle.std.specs.Prelude.{◌≡◌, ◌⊎◌, ◌++◌, ◌∷◌, ◌^◌, ◌-◌, [], ℕ, Bool, true, false, List, Option, Some, None}
 use Rattle.dom_base.specs.declared.names.As.{As}
 use Rattle.dom_edge.specs.Causes.{Rose}
 use Rattle.dom_edge.specs.Folders.{Contents}

@@ -1,10 +1,7 @@
 -- The histories of a server's lock are runs of its network, and its sessions write first parts of what was put for their peers.
 use Rattle.std.specs.Prelude.{◌≡◌, ◌⊎◌, ℕ, true, List, [], ◌++◌, map}
 use Rattle.dom_edge.specs.Heeding.{Sides}
-use Rattle.plant_lock.specs.Views.{LegalFrom}
 use Rattle.plant_network.specs.Histories.{done_by, events_of}
-use Rattle.plant_network.specs.Topologies.{whole}
-use Rattle.plant_network.specs.Turns.{Admits, Allowed, left_by}
 use Rattle.plant_network.specs.plant_model.Blind.{is_closed}
 use Rattle.plant_network.specs.plant_model.Plant.{Entry, Plant, Run}
 use Rattle.plant_network.specs.plant_model.RealWire.{wire}

@@ -1,5 +1,5 @@
 -- The parts of a start: tasks that are planned, and why one is not started.
-use Rattle.std.specs.Prelude.{◌≡◌, ◌+◌, ◌≤◌, ◌-◌, ◌^◌, ℕ, min, List, ◌++◌, All, map, slice_get, Option, Some}
+use Rattle.std.specs.Prelude.{◌≡◌, ◌+◌, ℕ, List, ◌++◌, All, map, slice_get, Option, Some}
 use Rattle.dom_base.specs.declared.addr.Addr.{Addr}
 use Rattle.dom_edge.specs.Causes.{Rose}
 use Rattle.plant_text.specs.declared.settings.PeerRow.{PeerRow}

@@ -5,7 +5,7 @@ use Rattle.logbook.specs.Pages.{Book}
 use Rattle.ted_watch.specs.declared.shown.Shown.{Shown}
 use Rattle.ted_watch.specs.declared.watch.Watcher as watch
 use Rattle.ted_watch.specs.Watch.{known, list_at}
-use Rattle.network_serving.specs.Bases.{Base, Watcher, base_in}
+use Rattle.network_serving.specs.Bases.{Watcher, base_in}
 use Rattle.network_serving.specs.Tasks.{IsNew, duty_of}
 use Rattle.network_serving.specs.declared.duties.Duty.{Duty}
 use Rattle.network_serving.specs.declared.duties.TheConstants.{WATCHERS}

@@ -4,7 +4,7 @@ ghost use Rattle.std.specs.Vec.{vec_capacity};
 
 use dom_base::Bytes;
 use server_loops::model::{Event, Outcome, Refused};
-use server_loops::{Desk, DeskRefused, Guide, Rest, Sited};
+use server_loops::{Desk, DeskRefused, Ends, Guide, Rest, Sited};
 use std::alloc::Global;
 use std::mem::replace;
 use std::snapshot::Snapshot;
@@ -221,4 +221,11 @@ impl Guide for Clerk {
     }
 
     fn found(&self, _place: usize) {}
+}
+
+// Nobody asks it to end.
+impl Ends for Clerk {
+    fn is_over(&self) -> bool {
+        false
+    }
 }

@@ -1,4 +1,4 @@
-use Rattle.std.proofs.Common.{◌≡◌, ◌∙◌, ℕ, List, Option, ap, arith, subst}
+use Rattle.std.proofs.Common.{◌≡◌, ◌∙◌, List, Option, ap, arith, subst}
 use Rattle.dom_edge.specs.Stores.{Files}
 use Rattle.plant_text.specs.declared.settings.ElementRow.{ElementRow}
 use Rattle.plant_text.specs.declared.settings.NetworkParts.{NetworkParts}

@@ -1,9 +1,7 @@
 use Rattle.std.proofs.Common.{◌≡◌, ◌∙◌, ◌+◌, ◌++◌, ◌∷◌, [], List, ap, subst, sym, take}
-use Rattle.std.proofs.lemmas.List.{take_all, take_more}
+use Rattle.std.proofs.lemmas.List.{take_more}
 use Rattle.event_tape.specs.Tapes.{Taped}
-use Rattle.event_tape.specs.declared.told.Told.{Told}
 use Rattle.plant_text.specs.declared.settings.ElementRow.{ElementRow}
-use Rattle.plant_text.specs.declared.settings.NetworkParts.{NetworkParts}
 use Rattle.plant_network.specs.Topologies.{whole}
 use Rattle.network_serving.specs.Records.{AreFirst}
 use Rattle.network_serving.proofs.RecordLaws.{first_more}

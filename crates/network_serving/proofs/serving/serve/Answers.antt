@@ -13,7 +13,7 @@ returns-in-Ok-start_network g c =
     let x : Server = server (stand_of p.desk) (published p.publisher) (list_of p.publisher) in
     record {
       ends = told_so _ _ _ _ c.tick_on-made.result c.end_of.result c.tick_on-made.ensures.within
-          (all_served _ (Unit {0}) _ 0 c.tick_on-made.result p.network x c.in-Ok.ensures.ok.0 c.in-Ok.ensures.ok.1 c.in-Ok.ensures.ready c.in-Ok-start_network.ensures.ok c.in-Ok-start_network.ensures.behind c.tick_on-made.ensures.counted
+          (all_served _ _ c.tick_on-made.result p.network x c.in-Ok.ensures.ok.0 c.in-Ok.ensures.ok.1 c.in-Ok.ensures.ready c.in-Ok-start_network.ensures.ok c.in-Ok-start_network.ensures.behind c.tick_on-made.ensures.counted
           (stand_of c.tick_on-made.new.desk) refl (c.tick_on-made.ensures.stays x.desk (subst (λ (s : Stand). IsAtLock x.desk s) (sym c.in-Ok-start_network.ensures.stand) (opened_at_lock c.in-Ok.ensures.ready.held x.desk c.in-Ok.ensures.ready.opened)))
           (subst (λ (s : Stand). TellsTime c.tick_on-made.result (desked_of s) (desked_of (stand_of c.tick_on-made.new.desk)) (g.C.Clock.last c.args.clock.now) (g.C.Clock.last c.tick_on-made.new.clock)) c.in-Ok-start_network.ensures.stand c.tick_on-made.ensures.tells))
           c.end_of.ensures;

@@ -1,5 +1,5 @@
 use Rattle.std.specs.Prelude.{replicate}
-use Rattle.std.proofs.Common.{rules, ◌≡◌, ◌∙◌, ◌<◌, ℕ, List, All, length, ap, refl, subst, sym, arith}
+use Rattle.std.proofs.Common.{rules, ◌≡◌, ◌∙◌, ℕ, List, All, length, ap, refl, subst, sym, arith}
 use Rattle.ted_watch.specs.Watch.{carried, list_at, list_told}
 use Rattle.network_serving.specs.Bases.{Watcher}
 use Rattle.network_serving.specs.Duties.{watches_at}

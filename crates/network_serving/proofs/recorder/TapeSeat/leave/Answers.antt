@@ -1,7 +1,5 @@
-use Rattle.std.proofs.Common.{◌≡◌, ap, refl, subst, sym}
-use Rattle.turn_desk.specs.Desks.{IsStill, stand_of}
+use Rattle.std.proofs.Common.{refl}
 use Rattle.turn_desk.specs.Seats.{seat_of}
-use Rattle.network_serving.specs.Records.{hands_at}
 use Rattle.network_serving.proofs.RecordLaws.{stop_left, stop_stays}
 use Rattle.network_serving.proofs.recorder.TapeSeat.leave.Goals as goal
 use Rattle.network_serving.proofs.recorder.TapeSeat.leave.Goals.{then-not-matches, else-not-matches, in-Ended, in_default}

@@ -1,0 +1,13 @@
+pub mod Printed
+pub mod Shapes
+pub mod Known
+pub mod Handing
+pub mod Items
+pub mod Firsts
+pub mod Scripts
+pub mod Fine
+pub mod Splitting
+pub mod Written
+pub mod Playing
+pub mod Rightly
+pub mod Replaying

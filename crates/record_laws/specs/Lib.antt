@@ -1,0 +1,4 @@
+-- for readers
+pub mod Days
+pub mod Records
+pub mod Replayed
