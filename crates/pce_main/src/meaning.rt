@@ -30,13 +30,12 @@ impl<K: Sink + Drop> Beginning<K> {
     pub(crate) fn text(&self) -> &[u8] {
         &self.text
     }
+}
 
-    fn keep(&mut self, piece: &[u8]) {
-        if self.text.len() < LINE_MAX {
-            let _full = self
-                .text
-                .extend_from_slice(&piece[..piece.len().min(LINE_MAX)]);
-        }
+// Keeps a piece behind the others, where there are not enough octets yet.
+fn keep(text: &mut Vec<u8>, piece: &[u8]) {
+    if text.len() < LINE_MAX {
+        let _full = text.extend_from_slice(&piece[..piece.len().min(LINE_MAX)]);
     }
 }
 
@@ -52,7 +51,7 @@ impl<K: Sink + Drop> Sink for Beginning<K> {
     {
         let put = self.sink.write(piece);
         if let Put::Bytes(count) = put {
-            self.keep(&piece[..count]);
+            keep(&mut self.text, &piece[..count]);
         }
         put
     }

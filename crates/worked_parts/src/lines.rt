@@ -43,7 +43,8 @@ load 2 d2.txt^;load 2 d2.txt^|9|9|1 ok generation 1;2 read fault;|end|1
 load 5 d5.txt;tick 1;load 2 bad.txt;load 2 big.txt;load 2|9|9|1 refused no such peer;2 bad line;3 bad network bad.txt 1 no header;4 too large big.txt;5 bad line;|end|-
 change 2 more.txt;load 2 d2.txt;change 2 more.txt;change 2 more.txt|9|9|1 refused no such peer;2 ok generation 1;3 ok generation 2;4 bad network more.txt 1 present;|end|2
 load 2 d2.txt;change 2 none.txt;change 2 bad.txt;change 7 more.txt|9|9|1 ok generation 1;2 bad network none.txt 1 absent;3 bad network bad.txt 2 syntax;4 refused no such peer;|end|1
-stop;show;show 2;shut zz;break 1 2;write 2 d2.txt;receive zz 00;take zz|0|9|1 bad line;2 bad line;3 bad line;4 bad line;5 bad line;6 bad line;7 bad line;8 bad line;|end|-
+stop;show;show 2;shut zz;write 2 d2.txt;receive zz 00;take zz|0|9|1 ok;2 bad line;3 bad line;4 refused no such peer;5 bad line;6 bad line;7 bad line;|end|-
+break 1 2;load 2 d2.txt|0|9||spent|-
 jump;load 2 d2.txt;jump|0|9|1 bad line;|spent|-
 load 2 d2.txt;|1|9||spent|-
 load 2 d2.txt;change 2 more.txt;|2|9|1 ok generation 1;|spent|1
