@@ -9,7 +9,6 @@ use Rattle.dom_edge.specs.contracts.noted.Noted as Noted
 use Rattle.dom_edge.specs.contracts.sockets.listener.PortListener as PortListener
 use Rattle.dom_edge.specs.contracts.sockets.link.SocketLink as SocketLink
 use Rattle.dom_edge.specs.contracts.sockets.shared.SharedPort as SharedPort
-use Rattle.dom_edge.specs.contracts.sockets.shared.Doorway as Doorway
 use Rattle.dom_edge.specs.contracts.bell.Place as Place
 use Rattle.dom_edge.specs.contracts.bell.Bell as Bell
 
