@@ -5,6 +5,7 @@ pub mod Passing
 pub mod Peers
 pub mod Placing
 pub mod Reading
+pub mod Rowing
 pub mod Steps
 pub mod Shortness
 pub mod Wording

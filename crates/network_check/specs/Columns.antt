@@ -1,64 +1,64 @@
 -- What is told of the keys of rows: which lack, which are not known, and which have a value that they may not have.
-use Rattle.std.specs.Prelude.{ℕ, pos, ◌+◌, Bool, not, List, [], ◌∷◌, ◌++◌, codes, decimal, find, Option, Some, None, if◌then◌else◌}
+use Rattle.std.specs.Prelude.{ℕ, pos, ◌+◌, Bool, List, [], ◌∷◌, ◌++◌, codes, decimal, Option, Some, None, if◌then◌else◌}
 use Rattle.std.specs.List.{list_any}
 use Rattle.std.specs.Str.{bytes_eq}
 use Rattle.dom_base.specs.Steps.{◌>>=◌}
 use Rattle.toml.specs.Data.{Data, Items, no_items, item, Members, integer, array, as_str, as_table, get, get_member}
 use Rattle.plant_text.specs.SettingsText.{names}
 use Rattle.network_check.specs.declared.kinds.Kind.{Kind}
-use Rattle.network_check.specs.Kinds.{allowed_parts, is_kind}
-use Rattle.network_check.specs.Places.{key_line, line_of, top_line}
 use Rattle.network_check.specs.declared.sections.Section.{Section}
-use Rattle.network_check.specs.declared.sections.Section.TheVariants.{Peers}
-use Rattle.network_check.specs.Pairs.{pairs_text}
-use Rattle.network_check.specs.Sections.{Column, called, columns_of, header_of}
-use Rattle.network_check.specs.Sheets.{Sheet}
+use Rattle.network_check.specs.declared.sections.Section.TheVariants.{Links, Peers}
+use Rattle.network_check.specs.Kinds.{allowed_parts, is_kind}
+use Rattle.network_check.specs.Places.{top_line}
+use Rattle.network_check.specs.Pairs.{ends_text, pairs_text}
+use Rattle.network_check.specs.Sections.{Column, called, columns_of}
+use Rattle.network_check.specs.Stands.{Stand, line_of_row, line_of_key, stand}
 use Rattle.network_check.specs.Told.{joined, shown, told}
 
 -- ---- the keys of a row
 
-abbrev pub kind_text : List ℕ → ℕ → List ℕ → List ℕ → List ℕ → Kind → List ℕ
-kind_text file line label key what kind = told file line (joined (label ∷ codes ": " ∷ key ∷ what ∷ allowed_parts kind))
+abbrev pub kind_text : Stand → ℕ → List ℕ → List ℕ → Kind → List ℕ
+kind_text s line what key kind = told s.file line (joined (s.label ∷ codes ": " ∷ key ∷ what ∷ allowed_parts kind))
 
 -- the value is of the kind, or it is told what it may be
-abbrev pub value_text : Sheet → ℕ → List ℕ → Column → Data → List ℕ
-value_text s i label c d = if is_kind c.kind d then [] else kind_text s.file (key_line s.text (header_of s.section) i c.key) label c.key (codes " is not ") c.kind
+abbrev pub value_text : Stand → Column → Data → List ℕ
+value_text s c d = if is_kind c.kind d then [] else kind_text s (line_of_key s c.key) (codes " is not ") c.key c.kind
 
-abbrev pub lack_text : Sheet → ℕ → List ℕ → Column → List ℕ
-lack_text s i label c = if c.needed then kind_text s.file (line_of s.text (header_of s.section) i) label c.key (codes " is missing: ") c.kind else []
+abbrev pub lack_text : Stand → Column → List ℕ
+lack_text s c = if c.needed then kind_text s (line_of_row s) (codes " is missing: ") c.key c.kind else []
 
-abbrev pub found_text : Sheet → ℕ → List ℕ → Column → Option Data → List ℕ
-found_text s i label c (Some d) = value_text s i label c d
-found_text s i label c None = lack_text s i label c
+abbrev pub found_text : Stand → Column → Option Data → List ℕ
+found_text s c (Some d) = value_text s c d
+found_text s c None = lack_text s c
 
-abbrev pub field_text : Sheet → ℕ → List ℕ → Members → Column → List ℕ
-field_text s i label ms c = found_text s i label c (get_member c.key ms)
+abbrev pub field_text : Stand → Members → Column → List ℕ
+field_text s ms c = found_text s c (get_member c.key ms)
 
-abbrev pub columns_text : Sheet → ℕ → List ℕ → Members → List Column → List ℕ
-columns_text s i label ms [] = []
-columns_text s i label ms (c ∷ cs) = field_text s i label ms c ++ columns_text s i label ms cs
+abbrev pub columns_text : Stand → Members → List Column → List ℕ
+columns_text s ms [] = []
+columns_text s ms (c ∷ cs) = field_text s ms c ++ columns_text s ms cs
 
--- the first key that is not known
+-- a key that a row may have
 abbrev pub is_column : List Column → List ℕ → Bool
 is_column cs key = list_any (λ (c : Column). bytes_eq key c.key) cs
 
-abbrev pub strange_text : Sheet → ℕ → List ℕ → Option (List ℕ) → List ℕ
-strange_text s i label None = []
-strange_text s i label (Some key) = told s.file (key_line s.text (header_of s.section) i key) (joined (label ∷ codes ": " ∷ shown key ∷ codes " is no key there" ∷ []))
+abbrev pub strange_text : Stand → List ℕ → List ℕ
+strange_text s key =
+    if is_column (columns_of s.section) key then [] else told s.file (line_of_key s key) (joined (s.label ∷ codes ": " ∷ shown key ∷ codes " is no key there" ∷ []))
 
-abbrev pub unknown_in : Section → Members → Option (List ℕ)
-unknown_in section ms = find (λ k. not (is_column (columns_of section) k)) (names ms)
+-- each key that is none of those, in the order of their bytes
+abbrev pub unknown_text : Stand → List (List ℕ) → List ℕ
+unknown_text s [] = []
+unknown_text s (key ∷ keys) = strange_text s key ++ unknown_text s keys
 
-abbrev pub unknown_text : Sheet → ℕ → List ℕ → Members → List ℕ
-unknown_text s i label ms = strange_text s i label (unknown_in s.section ms)
+-- keys that do not go together
+abbrev pub together_text : Section → Stand → Members → List ℕ
+together_text Links s ms = ends_text s ms
+together_text Peers s ms = pairs_text s ms
+together_text other s ms = []
 
--- of a peer, the keys that do not go together
-abbrev pub together_text : Section → Sheet → ℕ → List ℕ → Members → List ℕ
-together_text Peers s i label ms = pairs_text s i label ms
-together_text other s i label ms = []
-
-abbrev pub row_text : Sheet → ℕ → List ℕ → Members → List ℕ
-row_text s i label ms = columns_text s i label ms (columns_of s.section) ++ (unknown_text s i label ms ++ together_text s.section s i label ms)
+abbrev pub row_text : Stand → Members → List ℕ
+row_text s ms = columns_text s ms (columns_of s.section) ++ (unknown_text s (names ms) ++ together_text s.section s ms)
 
 -- ---- the rows of a table
 
@@ -85,18 +85,18 @@ row_label table (Some name) domain = joined (table ∷ codes " " ∷ shown name 
 abbrev pub label_of : List ℕ → Data → List ℕ
 label_of table d = row_label table (name_in d) (domain_in d)
 
-abbrev pub labelled_text : Sheet → ℕ → List ℕ → Option Members → List ℕ
-labelled_text s i label (Some ms) = row_text s i label ms
-labelled_text s i label None = told s.file (line_of s.text (header_of s.section) i) (joined (label ∷ codes ": is no table" ∷ []))
+abbrev pub labelled_text : Stand → Option Members → List ℕ
+labelled_text s (Some ms) = row_text s ms
+labelled_text s None = told s.file (line_of_row s) (joined (s.label ∷ codes ": is no table" ∷ []))
 
-abbrev pub member_text : Sheet → ℕ → Data → List ℕ
-member_text s i d = labelled_text s i (label_of (called s.section) d) (as_table d)
+abbrev pub member_text : List ℕ → List ℕ → Section → ℕ → Data → List ℕ
+member_text file text section i d = labelled_text (stand file text section i (label_of (called section) d)) (as_table d)
 
-abbrev pub items_text : Sheet → ℕ → Items → List ℕ
-items_text s i no_items = []
-items_text s i (item d ds) = member_text s i d ++ items_text s (i + 1) ds
+abbrev pub items_text : List ℕ → List ℕ → Section → ℕ → Items → List ℕ
+items_text file text section i no_items = []
+items_text file text section i (item d ds) = member_text file text section i d ++ items_text file text section (i + 1) ds
 
-abbrev pub rows_text : Sheet → Option Data → List ℕ
-rows_text s None = []
-rows_text s (Some (array ds)) = items_text s 0 ds
-rows_text s (Some d) = told s.file (top_line s.text (called s.section)) (joined (called s.section ∷ codes ": is no list of tables" ∷ []))
+abbrev pub rows_text : List ℕ → List ℕ → Section → Option Data → List ℕ
+rows_text file text section None = []
+rows_text file text section (Some (array ds)) = items_text file text section 0 ds
+rows_text file text section (Some d) = told file (top_line text (called section)) (joined (called section ∷ codes ": is no list of tables" ∷ []))

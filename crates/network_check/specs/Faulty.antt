@@ -8,13 +8,13 @@ use Rattle.network_check.specs.declared.sections.Section.TheVariants.{Elements, 
 use Rattle.network_check.specs.Columns.{label_of, row_text, rows_text}
 use Rattle.network_files.specs.Faults.{fault_text}
 use Rattle.network_check.specs.Places.{line_of, top_line}
-use Rattle.network_check.specs.Sheets.{sheet}
+use Rattle.network_check.specs.Stands.{stand}
 use Rattle.network_check.specs.Told.{joined, shown, told}
 
 -- ---- the keys of the tables
 
 abbrev pub parent_text : List ℕ → List ℕ → Members → List ℕ
-parent_text file text parent = row_text (sheet file text Parent) 0 (codes "parent") parent ++ rows_text (sheet file text ParentLinks) (get_member (codes "link") parent)
+parent_text file text parent = row_text (stand file text Parent 0 (codes "parent")) parent ++ rows_text file text ParentLinks (get_member (codes "link") parent)
 
 abbrev pub parent_value_text : List ℕ → List ℕ → Option Data → List ℕ
 parent_value_text file text None = []
@@ -23,9 +23,9 @@ parent_value_text file text (Some d) = told file (top_line text (codes "parent")
 
 abbrev pub tables_text : List ℕ → List ℕ → Members → List ℕ
 tables_text file text root =
-    rows_text (sheet file text Elements) (get_member (codes "element") root) ++ (rows_text (sheet file text Links) (get_member (codes "link") root)
-    ++ (rows_text (sheet file text Peers) (get_member (codes "peer") root) ++ (rows_text (sheet file text Denials) (get_member (codes "deny") root)
-    ++ (parent_value_text file text (get_member (codes "parent") root) ++ row_text (sheet file text Top) 0 (codes "settings") root))))
+    rows_text file text Elements (get_member (codes "element") root) ++ (rows_text file text Links (get_member (codes "link") root)
+    ++ (rows_text file text Peers (get_member (codes "peer") root) ++ (rows_text file text Denials (get_member (codes "deny") root)
+    ++ (parent_value_text file text (get_member (codes "parent") root) ++ row_text (stand file text Top 0 (codes "settings")) root))))
 
 -- ---- the first rule that is broken
 
@@ -55,15 +55,13 @@ label_at root name i = label_or name (row_at root name i)
 abbrev pub row_fault : List ℕ → List ℕ → Members → List ℕ → List ℕ → ℕ → List ℕ
 row_fault file text root why name i = told file (line_at text name i) (joined (why ∷ label_at root name i ∷ []))
 
+abbrev pub too_many_text : List ℕ → List ℕ → List ℕ → List ℕ
+too_many_text file text name = told file (line_at text name 0) (joined (codes "too many " ∷ shown name ∷ []))
+
 abbrev pub settings_fault : List ℕ → List ℕ → Members → NetFault → List ℕ
 settings_fault file text root (fault.Shape name i) = row_fault file text root (codes "shape ") name i
 settings_fault file text root (fault.Duplicate name i) = row_fault file text root (codes "duplicate ") name i
 settings_fault file text root (fault.Unknown name i) = row_fault file text root (codes "unknown ") name i
 settings_fault file text root (fault.NoParent i) = row_fault file text root (codes "no parent for ") (codes "element") i
-settings_fault file text root (fault.TooMany name) = told file (line_at text name 0) (joined (codes "too many " ∷ shown name ∷ []))
+settings_fault file text root (fault.TooMany name) = too_many_text file text name
 settings_fault file text root other = told file 0 (joined (fault_text other ∷ []))
-
--- ---- the whole
-
-abbrev pub faulty_text : List ℕ → List ℕ → NetFault → Members → List ℕ
-faulty_text file text fault root = settings_fault file text root fault ++ tables_text file text root

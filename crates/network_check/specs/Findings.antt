@@ -2,8 +2,10 @@
 use Rattle.std.specs.Prelude.{◌≡◌, ◌||◌, ◌<◌, ◌≤◌, ◌^◌, ℕ, Bool, true, false, List, [], ◌∷◌, ◌++◌, length, codes, Option}
 use Rattle.std.specs.List.{list_any}
 use Rattle.std.specs.Str.Lines.{lines}
+use Rattle.toml.specs.Data.{Members}
 use Rattle.toml.specs.View.{table_view}
 use Rattle.dom_edge.specs.Stores.{Files}
+use Rattle.plant_text.specs.declared.fault.NetFault.{NetFault}
 use Rattle.plant_text.specs.declared.settings.ElementRow.{ElementRow}
 use Rattle.network_check.specs.declared.looks.Seen.{Seen}
 use Rattle.network_check.specs.declared.looks.Settings.{Settings}
@@ -11,7 +13,8 @@ use Rattle.network_check.specs.declared.looks.Settings.TheVariants as settings
 use Rattle.network_check.specs.declared.findings.Findings.{Findings}
 use Rattle.network_check.specs.declared.findings.Report.{Report}
 use Rattle.network_check.specs.Compare.{is_refused, topologies_text}
-use Rattle.network_check.specs.Faulty.{faulty_text}
+use Rattle.network_check.specs.Clashes.{broken, clashes_text}
+use Rattle.network_check.specs.Faulty.{settings_fault, tables_text}
 use Rattle.network_check.specs.Looks.{AreSeen, IsSettings}
 use Rattle.network_check.specs.Told.{joined, told}
 use Rattle.network_check.specs.Warnings.{settings_warnings}
@@ -33,6 +36,10 @@ abbrev pub IsShortText : Settings → Type 0
 IsShortText (settings.Sound text n) = length (lines text) < 2 ^ 32
 IsShortText (settings.Faulty text root fault) = length (lines text) < 2 ^ 32
 IsShortText other = Unit {0}
+
+-- the first rule that is broken, as each command tells it; then the keys of all rows; and each other rule about rows beside one another
+abbrev pub faulty_text : List ℕ → List ℕ → NetFault → Members → List ℕ
+faulty_text file text first root = settings_fault file text root first ++ (tables_text file text root ++ clashes_text (broken file text root first))
 
 abbrev pub settings_text : List ℕ → Settings → List ℕ
 settings_text net (settings.Sound text n) = settings_warnings net text n

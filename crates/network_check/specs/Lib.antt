@@ -2,6 +2,7 @@
 pub mod Findings
 pub mod Looks
 pub mod Faulty
+pub mod Clashes
 pub mod Warnings
 pub mod Compare
 pub mod Breaches
@@ -10,7 +11,8 @@ pub mod Slots
 pub mod Sections
 pub mod Columns
 pub mod Pairs
-pub mod Sheets
+pub mod Stands
+pub mod Keys
 pub mod Kinds
 pub mod Places
 pub mod Documents

@@ -1,19 +1,24 @@
 //! What is told of a network's files.
-ghost use Rattle.std.specs.Prelude.{◌≡◌, ◌≤◌, ◌++◌, All, IfOk, OnOk};
+ghost use Rattle.std.specs.Prelude.{◌≡◌, ◌<◌, ◌≤◌, ◌^◌, ◌++◌, All, IfOk, OnOk, length};
+ghost use Rattle.std.specs.Str.Lines.{lines as lines_of};
+ghost use Rattle.toml.specs.View.{table_view};
 ghost use Rattle.network_check.specs.declared.looks.Seen.{Seen};
 ghost use Rattle.network_check.specs.Compare.{IsShort};
-ghost use Rattle.network_check.specs.Findings.{AreFound, IsReport, IsShortText, findings_text, has_fault as has_fault_at, is_faulty as are_faulty, rows_of, settings_text};
+ghost use Rattle.network_check.specs.Findings.{AreFound, IsReport, IsShortText, faulty_text, findings_text, has_fault as has_fault_at, is_faulty as are_faulty, rows_of, settings_text};
 ghost use Rattle.network_check.specs.Looks.{AreSeen};
 
+use crate::clashes::{Broken, tell_clashes};
 use crate::compare::{has_fault, tell_of_topologies};
 use crate::looks::{Seen, Settings, look_at_rows, look_at_settings};
 use crate::places::Page;
-use crate::settings::tell_faulty;
+use crate::settings::{tell_fault, tell_tables};
 use crate::told::{Piece, tell};
 use crate::warnings::warn_of_settings;
 use dom_base::{Bytes, List, NoMemory};
 use dom_edge::Store;
+use plant_text::NetFault;
 use std::alloc::Global;
+use toml::Table;
 
 /// What is told, and whether a file is at fault.
 #[derive(Drop)]
@@ -59,6 +64,28 @@ fn look<S: Store>(alloc: Global, store: &mut S, net: &str) -> Result<Findings, N
     let settings = look_at_settings(alloc, store, net)?;
     let seen = look_behind(alloc, store, &settings)?;
     Ok(Findings { settings, seen })
+}
+
+// Settings at fault, which are this document: the first rule that they break, the keys of all rows, and each other rule about rows
+// beside one another.
+fn tell_faulty(
+    alloc: Global,
+    page: &Page<'_>,
+    root: &Table,
+    first: &NetFault,
+    into: &mut Vec<u8>,
+) -> Result<(), NoMemory>
+    requires short { length (lines_of page.now.text.now) < 2 ^ 32 }
+    ensures { OnOk result (into.new.items ≡ into.old.items ++ faulty_text page.now.file.now page.now.text.now first.now (table_view root.now)) }
+{
+    tell_fault(alloc, page, root, first, into)?;
+    tell_tables(alloc, page, root, into)?;
+    let broken = Broken {
+        page: *page,
+        root,
+        first,
+    };
+    tell_clashes(alloc, &broken, into)
 }
 
 fn tell_settings(

@@ -2,11 +2,13 @@
 #![tactic(auto)]
 
 mod breaches;
+mod clashes;
 mod compare;
 mod documents;
 mod fields;
 mod findings;
 mod forms;
+mod keys;
 mod kinds;
 mod looks;
 mod pairs;

@@ -1,17 +1,16 @@
 //! The keys of the rows of settings: which lack, which are not known, and which have a value that they may not have.
-ghost use Rattle.std.specs.Prelude.{◌≡◌, ◌++◌, ◌<◌, ◌^◌, IfOk, OnOk, find, length, map, not, option_map, string_bytes};
-ghost use Rattle.std.specs.BTreeMap.{keys};
-ghost use Rattle.std.specs.Option.{option_copied};
+ghost use Rattle.std.specs.Prelude.{◌≡◌, ◌++◌, ◌<◌, ◌^◌, IfOk, OnOk, length, map, option_map};
 ghost use Rattle.std.specs.Str.Lines.{lines as lines_of};
-ghost use Rattle.toml.specs.Data.{get_member};
 ghost use Rattle.toml.specs.View.{items_view, table_view, view};
+ghost use Rattle.plant_text.specs.SettingsText.{names};
+ghost use Rattle.network_check.specs.Columns.{columns_text, domain_in, field_text, is_column, items_text, kind_text, label_of as row_called, labelled_text, lack_text, member_text, name_in, row_label, row_text, rows_text, strange_text, together_text, unknown_text, value_text};
 ghost use Rattle.network_check.specs.Sections.{column, columns_of};
-ghost use Rattle.network_check.specs.Sheets.{sheet_of};
-ghost use Rattle.network_check.specs.Columns.{columns_text, domain_in, field_text, is_column, items_text, kind_text, label_of as row_called, labelled_text, lack_text, member_text, name_in, row_label, row_text, rows_text, together_text, unknown_in, unknown_text, value_text};
+ghost use Rattle.network_check.specs.Stands.{line_of_key as key_stands_at, line_of_row as row_stands_at, stand_of};
 
 use crate::fields::{Field, key_of, kind_of};
+use crate::keys::value_at;
 use crate::kinds::{Kind, fits, kind_words};
-use crate::pairs::tell_pairs;
+use crate::pairs::{tell_ends, tell_pairs};
 use crate::places::{Page, key_line, row_line, top_line};
 use crate::sections::{Section, fields_of, header_of, name_of as table_name};
 use crate::told::{Piece, tell, write_pieces};
@@ -19,40 +18,50 @@ use dom_base::NoMemory;
 use std::alloc::Global;
 use toml::{Table, Value};
 
-/// The rows of a table of settings.
+/// A row of settings: its table, its place there, and what it is called.
 #[derive(Clone, Copy)]
-pub struct Rows<'a> {
+pub struct Row<'a> {
     pub page: Page<'a>,
     pub section: Section,
+    pub index: usize,
+    pub label: &'a [u8],
 }
 
-/// The value of a key.
-pub(crate) fn value_at<'a>(table: &'a Table, key: &str) -> Option<&'a Value>
-    ensures { option_map (λ v. view v.now) result ≡ get_member key.now (table_view table.now) }
+/// The line of a row.
+fn line_of_row(row: &Row<'_>) -> u32
+    requires short { length (lines_of row.now.page.text.now) < 2 ^ 32 }
+    ensures { result ≡ row_stands_at (stand_of row.now) }
 {
-    table.get(key)
+    row_line(row.page.text, header_of(row.section), row.index)
+}
+
+/// The line of a key of a row.
+pub(crate) fn line_of_key(row: &Row<'_>, key: &[u8]) -> u32
+    requires short { length (lines_of row.now.page.text.now) < 2 ^ 32 }
+    ensures { result ≡ key_stands_at (stand_of row.now) key.now }
+{
+    key_line(row.page.text, header_of(row.section), row.index, key)
 }
 
 // ---- the keys of a row
 
 // What a key may be.
 fn tell_kind<'x>(
-    file: &[u8],
+    row: &Row<'x>,
     line: u32,
-    label: &'x [u8],
-    key: &'x [u8],
     what: &'x [u8],
+    key: &'x [u8],
     kind: Kind,
     into: &mut Vec<u8>,
 ) -> Result<(), NoMemory>
-    ensures { OnOk result (into.new.items ≡ into.old.items ++ kind_text file.now line label.now key.now what.now kind) }
+    ensures { OnOk result (into.new.items ≡ into.old.items ++ kind_text (stand_of row.now) line what.now key.now kind) }
 {
     match kind {
         Kind::Whole(least, most) => tell(
-            file,
+            row.page.file,
             line,
             &[
-                Piece::Text(label),
+                Piece::Text(row.label),
                 Piece::Text(b": "),
                 Piece::Text(key),
                 Piece::Text(what),
@@ -63,10 +72,10 @@ fn tell_kind<'x>(
             into,
         ),
         other => tell(
-            file,
+            row.page.file,
             line,
             &[
-                Piece::Text(label),
+                Piece::Text(row.label),
                 Piece::Text(b": "),
                 Piece::Text(key),
                 Piece::Text(what),
@@ -79,49 +88,32 @@ fn tell_kind<'x>(
 
 // A value that its key may not have.
 fn tell_value(
-    rows: &Rows<'_>,
-    index: usize,
-    label: &[u8],
+    row: &Row<'_>,
     field: &Field,
     value: &Value,
     into: &mut Vec<u8>,
 ) -> Result<(), NoMemory>
-    requires short { length (lines_of (sheet_of rows.now).text) < 2 ^ 32 }
-    ensures { OnOk result (into.new.items ≡ into.old.items ++ value_text (sheet_of rows.now) index label.now (column field.now) (view value.now)) }
+    requires short { length (lines_of row.now.page.text.now) < 2 ^ 32 }
+    ensures { OnOk result (into.new.items ≡ into.old.items ++ value_text (stand_of row.now) (column field.now) (view value.now)) }
 {
     let key = key_of(field).as_bytes();
     let kind = kind_of(field);
     if fits(kind, value) {
         return Ok(());
     }
-    let line = key_line(rows.page.text, header_of(rows.section), index, key);
-    tell_kind(rows.page.file, line, label, key, b" is not ", kind, into)
+    tell_kind(row, line_of_key(row, key), b" is not ", key, kind, into)
 }
 
 // A key that a row lacks.
-fn tell_lack(
-    rows: &Rows<'_>,
-    index: usize,
-    label: &[u8],
-    field: &Field,
-    into: &mut Vec<u8>,
-) -> Result<(), NoMemory>
-    requires short { length (lines_of (sheet_of rows.now).text) < 2 ^ 32 }
-    ensures { OnOk result (into.new.items ≡ into.old.items ++ lack_text (sheet_of rows.now) index label.now (column field.now)) }
+fn tell_lack(row: &Row<'_>, field: &Field, into: &mut Vec<u8>) -> Result<(), NoMemory>
+    requires short { length (lines_of row.now.page.text.now) < 2 ^ 32 }
+    ensures { OnOk result (into.new.items ≡ into.old.items ++ lack_text (stand_of row.now) (column field.now)) }
 {
     match field {
         Field::Must(key, kind) => {
-            let line = row_line(rows.page.text, header_of(rows.section), index);
+            let line = line_of_row(row);
             let what = b" is missing: ";
-            tell_kind(
-                rows.page.file,
-                line,
-                label,
-                key.as_bytes(),
-                what,
-                *kind,
-                into,
-            )
+            tell_kind(row, line, what, key.as_bytes(), *kind, into)
         }
         Field::May(_, _) => Ok(()),
     }
@@ -129,35 +121,31 @@ fn tell_lack(
 
 // A key that a row lacks, or whose value it may not have.
 fn tell_field(
-    rows: &Rows<'_>,
-    index: usize,
-    label: &[u8],
+    row: &Row<'_>,
     table: &Table,
     field: &Field,
     into: &mut Vec<u8>,
 ) -> Result<(), NoMemory>
-    requires short { length (lines_of (sheet_of rows.now).text) < 2 ^ 32 }
-    ensures { OnOk result (into.new.items ≡ into.old.items ++ field_text (sheet_of rows.now) index label.now (table_view table.now) (column field.now)) }
+    requires short { length (lines_of row.now.page.text.now) < 2 ^ 32 }
+    ensures { OnOk result (into.new.items ≡ into.old.items ++ field_text (stand_of row.now) (table_view table.now) (column field.now)) }
 {
     match value_at(table, key_of(field)) {
-        Some(value) => tell_value(rows, index, label, field, value, into),
-        None => tell_lack(rows, index, label, field, into),
+        Some(value) => tell_value(row, field, value, into),
+        None => tell_lack(row, field, into),
     }
 }
 
 fn tell_fields(
-    rows: &Rows<'_>,
-    index: usize,
-    label: &[u8],
+    row: &Row<'_>,
     table: &Table,
     fields: &[Field],
     into: &mut Vec<u8>,
 ) -> Result<(), NoMemory>
-    requires short { length (lines_of (sheet_of rows.now).text) < 2 ^ 32 }
-    ensures { OnOk result (into.new.items ≡ into.old.items ++ columns_text (sheet_of rows.now) index label.now (table_view table.now) (map column fields.now)) }
+    requires short { length (lines_of row.now.page.text.now) < 2 ^ 32 }
+    ensures { OnOk result (into.new.items ≡ into.old.items ++ columns_text (stand_of row.now) (table_view table.now) (map column fields.now)) }
 {
     for field in fields {
-        tell_field(rows, index, label, table, field, into)?;
+        tell_field(row, table, field, into)?;
     }
     Ok(())
 }
@@ -179,84 +167,60 @@ fn has_field(section: Section, key: &str) -> bool
     is_known(fields_of(section), key)
 }
 
-fn unknown_key(table: &Table, section: Section) -> Option<&String>
-    ensures { option_copied result ≡ find (λ k. not (is_column (columns_of section) (string_bytes k))) (keys table.now) }
+// A key that is not known.
+fn tell_strange<'x>(row: &Row<'x>, key: &'x str, into: &mut Vec<u8>) -> Result<(), NoMemory>
+    requires short { length (lines_of row.now.page.text.now) < 2 ^ 32 }
+    ensures { OnOk result (into.new.items ≡ into.old.items ++ strange_text (stand_of row.now) key.now) }
 {
-    table.keys().find(|key| !has_field(section, key.as_str()))
+    if has_field(row.section, key) {
+        return Ok(());
+    }
+    let name = key.as_bytes();
+    tell(
+        row.page.file,
+        line_of_key(row, name),
+        &[
+            Piece::Text(row.label),
+            Piece::Text(b": "),
+            Piece::Name(name),
+            Piece::Text(b" is no key there"),
+        ],
+        into,
+    )
 }
 
-fn unknown_name(table: &Table, section: Section) -> Option<&str>
-    ensures { option_map (λ s. s.now) result ≡ unknown_in section (table_view table.now) }
+// Each key that is not known.
+#[tactic(auto, using(crate::proofs::Rowing::names_seen))]
+fn tell_unknown(row: &Row<'_>, table: &Table, into: &mut Vec<u8>) -> Result<(), NoMemory>
+    requires short { length (lines_of row.now.page.text.now) < 2 ^ 32 }
+    ensures { OnOk result (into.new.items ≡ into.old.items ++ unknown_text (stand_of row.now) (names (table_view table.now))) }
 {
-    match unknown_key(table, section) {
-        Some(key) => Some(key.as_str()),
-        None => None,
+    for key in table.keys() {
+        tell_strange(&*row, key.as_str(), into)?;
     }
-}
-
-// The first key that is not known.
-fn tell_unknown<'x>(
-    rows: &Rows<'_>,
-    index: usize,
-    label: &'x [u8],
-    table: &'x Table,
-    into: &mut Vec<u8>,
-) -> Result<(), NoMemory>
-    requires short { length (lines_of (sheet_of rows.now).text) < 2 ^ 32 }
-    ensures { OnOk result (into.new.items ≡ into.old.items ++ unknown_text (sheet_of rows.now) index label.now (table_view table.now)) }
-{
-    match unknown_name(table, rows.section) {
-        Some(name) => {
-            let key = name.as_bytes();
-            tell(
-                rows.page.file,
-                key_line(rows.page.text, header_of(rows.section), index, key),
-                &[
-                    Piece::Text(label),
-                    Piece::Text(b": "),
-                    Piece::Name(key),
-                    Piece::Text(b" is no key there"),
-                ],
-                into,
-            )
-        }
-        None => Ok(()),
-    }
+    Ok(())
 }
 
 // Keys that do not go together.
-fn tell_together(
-    rows: &Rows<'_>,
-    index: usize,
-    label: &[u8],
-    table: &Table,
-    into: &mut Vec<u8>,
-) -> Result<(), NoMemory>
-    requires short { length (lines_of (sheet_of rows.now).text) < 2 ^ 32 }
-    ensures { OnOk result (into.new.items ≡ into.old.items ++ together_text rows.now.section (sheet_of rows.now) index label.now (table_view table.now)) }
+fn tell_together(row: &Row<'_>, table: &Table, into: &mut Vec<u8>) -> Result<(), NoMemory>
+    requires short { length (lines_of row.now.page.text.now) < 2 ^ 32 }
+    ensures { OnOk result (into.new.items ≡ into.old.items ++ together_text row.now.section (stand_of row.now) (table_view table.now)) }
 {
-    match rows.section {
-        Section::Peers => tell_pairs(rows, index, label, table, into),
+    match row.section {
+        Section::Links => tell_ends(row, table, into),
+        Section::Peers => tell_pairs(row, table, into),
         _other => Ok(()),
     }
 }
 
-/// The keys of a table: each that lacks or has a value that it may not have, the first that is not known, and those that do not go
-/// together.
-pub(crate) fn tell_table(
-    rows: &Rows<'_>,
-    index: usize,
-    label: &[u8],
-    table: &Table,
-    into: &mut Vec<u8>,
-) -> Result<(), NoMemory>
-    requires short { length (lines_of (sheet_of rows.now).text) < 2 ^ 32 }
-    ensures { OnOk result (into.new.items ≡ into.old.items ++ row_text (sheet_of rows.now) index label.now (table_view table.now)) }
+/// The keys of a row: each that lacks or has a value that it may not have, each that is not known, and those that do not go together.
+pub(crate) fn tell_table(row: &Row<'_>, table: &Table, into: &mut Vec<u8>) -> Result<(), NoMemory>
+    requires short { length (lines_of row.now.page.text.now) < 2 ^ 32 }
+    ensures { OnOk result (into.new.items ≡ into.old.items ++ row_text (stand_of row.now) (table_view table.now)) }
 {
-    let fields = fields_of(rows.section);
-    tell_fields(rows, index, label, table, fields, into)?;
-    tell_unknown(rows, index, label, table, into)?;
-    tell_together(rows, index, label, table, into)
+    tell_fields(row, table, fields_of(row.section), into)?;
+    tell_unknown(row, table, into)?;
+    tell_together(row, table, into)
 }
 
 // ---- the rows of a table
@@ -323,23 +287,17 @@ pub(crate) fn label_of(alloc: Global, table: &[u8], value: &Value) -> Result<Vec
     Ok(label)
 }
 
-// The keys of a row that is called so.
-fn tell_labelled(
-    rows: &Rows<'_>,
-    index: usize,
-    label: &[u8],
-    table: Option<&Table>,
-    into: &mut Vec<u8>,
-) -> Result<(), NoMemory>
-    requires short { length (lines_of (sheet_of rows.now).text) < 2 ^ 32 }
-    ensures { OnOk result (into.new.items ≡ into.old.items ++ labelled_text (sheet_of rows.now) index label.now (option_map (λ t. table_view t.now) table.entry)) }
+// The keys of a row, where it is a table.
+fn tell_labelled(row: &Row<'_>, table: Option<&Table>, into: &mut Vec<u8>) -> Result<(), NoMemory>
+    requires short { length (lines_of row.now.page.text.now) < 2 ^ 32 }
+    ensures { OnOk result (into.new.items ≡ into.old.items ++ labelled_text (stand_of row.now) (option_map (λ t. table_view t.now) table.entry)) }
 {
     match table {
-        Some(table) => tell_table(rows, index, label, table, into),
+        Some(table) => tell_table(row, table, into),
         None => tell(
-            rows.page.file,
-            row_line(rows.page.text, header_of(rows.section), index),
-            &[Piece::Text(label), Piece::Text(b": is no table")],
+            row.page.file,
+            line_of_row(row),
+            &[Piece::Text(row.label), Piece::Text(b": is no table")],
             into,
         ),
     }
@@ -347,29 +305,37 @@ fn tell_labelled(
 
 fn tell_row(
     alloc: Global,
-    rows: &Rows<'_>,
+    page: &Page<'_>,
+    section: Section,
     index: usize,
     value: &Value,
     into: &mut Vec<u8>,
 ) -> Result<(), NoMemory>
-    requires short { length (lines_of (sheet_of rows.now).text) < 2 ^ 32 }
-    ensures { OnOk result (into.new.items ≡ into.old.items ++ member_text (sheet_of rows.now) index (view value.now)) }
+    requires short { length (lines_of page.now.text.now) < 2 ^ 32 }
+    ensures { OnOk result (into.new.items ≡ into.old.items ++ member_text page.now.file.now page.now.text.now section index (view value.now)) }
 {
-    let label = label_of(alloc, table_name(rows.section).as_bytes(), value)?;
-    tell_labelled(rows, index, &label, value.as_table(), into)
+    let label = label_of(alloc, table_name(section).as_bytes(), value)?;
+    let row = Row {
+        page: *page,
+        section,
+        index,
+        label: &label,
+    };
+    tell_labelled(&row, value.as_table(), into)
 }
 
 fn tell_items(
     alloc: Global,
-    rows: &Rows<'_>,
+    page: &Page<'_>,
+    section: Section,
     items: &[Value],
     into: &mut Vec<u8>,
 ) -> Result<(), NoMemory>
-    requires short { length (lines_of (sheet_of rows.now).text) < 2 ^ 32 }
-    ensures { OnOk result (into.new.items ≡ into.old.items ++ items_text (sheet_of rows.now) 0 (items_view items.now)) }
+    requires short { length (lines_of page.now.text.now) < 2 ^ 32 }
+    ensures { OnOk result (into.new.items ≡ into.old.items ++ items_text page.now.file.now page.now.text.now section 0 (items_view items.now)) }
 {
     for i in 0..items.len() {
-        tell_row(alloc, rows, i, &items[i], into)?;
+        tell_row(alloc, page, section, i, &items[i], into)?;
     }
     Ok(())
 }
@@ -377,25 +343,24 @@ fn tell_items(
 /// The keys of all rows of a table.
 pub(crate) fn tell_rows(
     alloc: Global,
-    rows: &Rows<'_>,
+    page: &Page<'_>,
+    section: Section,
     value: Option<&Value>,
     into: &mut Vec<u8>,
 ) -> Result<(), NoMemory>
-    requires short { length (lines_of (sheet_of rows.now).text) < 2 ^ 32 }
-    ensures { OnOk result (into.new.items ≡ into.old.items ++ rows_text (sheet_of rows.now) (option_map (λ v. view v.now) value.entry)) }
+    requires short { length (lines_of page.now.text.now) < 2 ^ 32 }
+    ensures { OnOk result (into.new.items ≡ into.old.items ++ rows_text page.now.file.now page.now.text.now section (option_map (λ v. view v.now) value.entry)) }
 {
     let Some(value) = value else {
         return Ok(());
     };
+    let name = table_name(section).as_bytes();
     match value.as_array() {
-        Some(items) => tell_items(alloc, rows, items.as_slice(), into),
+        Some(items) => tell_items(alloc, page, section, items.as_slice(), into),
         None => tell(
-            rows.page.file,
-            top_line(rows.page.text, table_name(rows.section).as_bytes()),
-            &[
-                Piece::Text(table_name(rows.section).as_bytes()),
-                Piece::Text(b": is no list of tables"),
-            ],
+            page.file,
+            top_line(page.text, name),
+            &[Piece::Text(name), Piece::Text(b": is no list of tables")],
             into,
         ),
     }

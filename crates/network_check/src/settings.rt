@@ -3,12 +3,13 @@ ghost use Rattle.std.specs.Prelude.{◌≡◌, ◌++◌, ◌<◌, ◌^◌, IfOk,
 ghost use Rattle.std.specs.Str.Lines.{lines as lines_of};
 ghost use Rattle.toml.specs.View.{table_view, view};
 ghost use Rattle.network_check.specs.Told.{shown};
-ghost use Rattle.network_check.specs.Faulty.{faulty_text, first_line, header, label_at as called_at, line_at, parent_text, parent_value_text, row_at as row_in_table, row_fault, settings_fault, tables_text};
-ghost use Rattle.network_check.specs.Columns.{row_text, rows_text};
-ghost use Rattle.network_check.specs.Sheets.{sheet};
+ghost use Rattle.network_check.specs.Faulty.{first_line, header, label_at as called_at, line_at, parent_text, parent_value_text, row_at as row_in_table, row_fault, settings_fault, tables_text, too_many_text};
+ghost use Rattle.network_check.specs.Columns.{row_text};
+ghost use Rattle.network_check.specs.Stands.{stand};
 
+use crate::keys::value_at;
 use crate::places::{Page, row_line, top_line};
-use crate::rows::{Rows, label_of, tell_rows, tell_table, value_at};
+use crate::rows::{Row, label_of, tell_rows, tell_table};
 use crate::sections::Section;
 use crate::told::{Piece, tell, write_name, write_pieces};
 use dom_base::NoMemory;
@@ -19,27 +20,6 @@ use toml::{Table, Value};
 
 // ---- tables
 
-fn tell_list(
-    alloc: Global,
-    page: &Page<'_>,
-    section: Section,
-    value: Option<&Value>,
-    into: &mut Vec<u8>,
-) -> Result<(), NoMemory>
-    requires short { length (lines_of page.now.text.now) < 2 ^ 32 }
-    ensures { OnOk result (into.new.items ≡ into.old.items ++ rows_text (sheet page.now.file.now page.now.text.now section) (option_map (λ v. view v.now) value.entry)) }
-{
-    tell_rows(
-        alloc,
-        &Rows {
-            page: *page,
-            section,
-        },
-        value,
-        into,
-    )
-}
-
 // A table by itself, or the keys beside the tables.
 fn tell_alone(
     page: &Page<'_>,
@@ -49,18 +29,15 @@ fn tell_alone(
     into: &mut Vec<u8>,
 ) -> Result<(), NoMemory>
     requires short { length (lines_of page.now.text.now) < 2 ^ 32 }
-    ensures { OnOk result (into.new.items ≡ into.old.items ++ row_text (sheet page.now.file.now page.now.text.now section) 0 label.now (table_view table.now)) }
+    ensures { OnOk result (into.new.items ≡ into.old.items ++ row_text (stand page.now.file.now page.now.text.now section 0 label.now) (table_view table.now)) }
 {
-    tell_table(
-        &Rows {
-            page: *page,
-            section,
-        },
-        0,
+    let row = Row {
+        page: *page,
+        section,
+        index: 0,
         label,
-        table,
-        into,
-    )
+    };
+    tell_table(&row, table, into)
 }
 
 fn tell_parent_table(
@@ -74,7 +51,7 @@ fn tell_parent_table(
 {
     let links = value_at(parent, "link");
     tell_alone(page, Section::Parent, b"parent", parent, into)?;
-    tell_list(alloc, page, Section::ParentLinks, links, into)
+    tell_rows(alloc, page, Section::ParentLinks, links, into)
 }
 
 fn tell_parent(
@@ -100,8 +77,8 @@ fn tell_parent(
     }
 }
 
-// The keys of all tables.
-fn tell_tables(
+/// The keys of all tables.
+pub(crate) fn tell_tables(
     alloc: Global,
     page: &Page<'_>,
     root: &Table,
@@ -111,10 +88,10 @@ fn tell_tables(
     ensures { OnOk result (into.new.items ≡ into.old.items ++ tables_text page.now.file.now page.now.text.now (table_view root.now)) }
 {
     let elements = value_at(root, "element");
-    tell_list(alloc, page, Section::Elements, elements, into)?;
-    tell_list(alloc, page, Section::Links, value_at(root, "link"), into)?;
-    tell_list(alloc, page, Section::Peers, value_at(root, "peer"), into)?;
-    tell_list(alloc, page, Section::Denials, value_at(root, "deny"), into)?;
+    tell_rows(alloc, page, Section::Elements, elements, into)?;
+    tell_rows(alloc, page, Section::Links, value_at(root, "link"), into)?;
+    tell_rows(alloc, page, Section::Peers, value_at(root, "peer"), into)?;
+    tell_rows(alloc, page, Section::Denials, value_at(root, "deny"), into)?;
     tell_parent(alloc, page, value_at(root, "parent"), into)?;
     tell_alone(page, Section::Top, b"settings", root, into)
 }
@@ -188,21 +165,21 @@ fn shown_name(alloc: Global, name: &[u8]) -> Result<Vec<u8>, NoMemory>
     Ok(word)
 }
 
-// A rule that a row breaks.
-fn tell_row_fault<'x>(
+/// A rule that a row breaks.
+pub(crate) fn tell_row_fault<'x>(
     alloc: Global,
     page: &Page<'_>,
     root: &'x Table,
     why: &'x [u8],
     table: &'x str,
-    index: u32,
+    index: usize,
     into: &mut Vec<u8>,
 ) -> Result<(), NoMemory>
     requires short { length (lines_of page.now.text.now) < 2 ^ 32 }
     ensures { OnOk result (into.new.items ≡ into.old.items ++ row_fault page.now.file.now page.now.text.now (table_view root.now) why.now table.now index) }
 {
-    let line = line_of_row(alloc, page.text, table.as_bytes(), index as usize)?;
-    let label = label_at(alloc, root, table, index as usize)?;
+    let line = line_of_row(alloc, page.text, table.as_bytes(), index)?;
+    let label = label_at(alloc, root, table, index)?;
     tell(
         page.file,
         line,
@@ -211,8 +188,27 @@ fn tell_row_fault<'x>(
     )
 }
 
-// The fault that every command tells of the settings.
-fn tell_fault(
+/// A table that has too many rows, or a row with too many shared risk groups.
+pub(crate) fn tell_too_many(
+    alloc: Global,
+    page: &Page<'_>,
+    table: &[u8],
+    into: &mut Vec<u8>,
+) -> Result<(), NoMemory>
+    requires short { length (lines_of page.now.text.now) < 2 ^ 32 }
+    ensures { OnOk result (into.new.items ≡ into.old.items ++ too_many_text page.now.file.now page.now.text.now table.now) }
+{
+    let line = line_of_row(alloc, page.text, table, 0)?;
+    tell(
+        page.file,
+        line,
+        &[Piece::Text(b"too many "), Piece::Name(table)],
+        into,
+    )
+}
+
+/// The fault that every command tells of the settings.
+pub(crate) fn tell_fault(
     alloc: Global,
     page: &Page<'_>,
     root: &Table,
@@ -224,44 +220,22 @@ fn tell_fault(
 {
     match fault {
         NetFault::Shape(table, i) => {
-            tell_row_fault(alloc, page, root, b"shape ", table.as_str(), *i, into)
+            let table = table.as_str();
+            tell_row_fault(alloc, page, root, b"shape ", table, *i as usize, into)
         }
         NetFault::Duplicate(table, i) => {
-            tell_row_fault(alloc, page, root, b"duplicate ", table.as_str(), *i, into)
+            let table = table.as_str();
+            tell_row_fault(alloc, page, root, b"duplicate ", table, *i as usize, into)
         }
         NetFault::Unknown(table, i) => {
-            tell_row_fault(alloc, page, root, b"unknown ", table.as_str(), *i, into)
+            let table = table.as_str();
+            tell_row_fault(alloc, page, root, b"unknown ", table, *i as usize, into)
         }
         NetFault::NoParent(i) => {
-            tell_row_fault(alloc, page, root, b"no parent for ", "element", *i, into)
+            let why = b"no parent for ";
+            tell_row_fault(alloc, page, root, why, "element", *i as usize, into)
         }
-        NetFault::TooMany(table) => {
-            let name = table.as_str().as_bytes();
-            let line = line_of_row(alloc, page.text, name, 0)?;
-            tell(
-                page.file,
-                line,
-                &[Piece::Text(b"too many "), Piece::Name(name)],
-                into,
-            )
-        }
+        NetFault::TooMany(table) => tell_too_many(alloc, page, table.as_str().as_bytes(), into),
         other => tell(page.file, 0, &[Piece::Text(fault_words(other))], into),
     }
-}
-
-// ---- the whole
-
-/// Tells of settings at fault, which are this document: the first rule that they break, and then the keys of all tables.
-pub(crate) fn tell_faulty(
-    alloc: Global,
-    page: &Page<'_>,
-    root: &Table,
-    fault: &NetFault,
-    into: &mut Vec<u8>,
-) -> Result<(), NoMemory>
-    requires short { length (lines_of page.now.text.now) < 2 ^ 32 }
-    ensures { OnOk result (into.new.items ≡ into.old.items ++ faulty_text page.now.file.now page.now.text.now fault.now (table_view root.now)) }
-{
-    tell_fault(alloc, page, root, fault, into)?;
-    tell_tables(alloc, page, root, into)
 }
