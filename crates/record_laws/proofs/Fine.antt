@@ -1,6 +1,6 @@
 -- What the files of a record say of its lines: comments are comments, events are within their types, and the topology that a line names
 -- stands in the file of that name.
-use Rattle.std.proofs.Common.{◌≡◌, ◌≢◌, ◌∙◌, ℕ, ◌+◌, ◌-◌, ◌<◌, ◌^◌, ◌/◌, ◌%◌, Bool, true, false, codes, decimal, length, slice_index, List, [], ◌∷◌, ◌++◌, Option, Some, None, refl, sym, ap, subst, append_assoc, append-nil, length-append, arith}
+use Rattle.std.proofs.Common.{◌≡◌, ◌≢◌, ◌∙◌, ℕ, ◌+◌, ◌<◌, ◌^◌, ◌/◌, ◌%◌, true, codes, decimal, length, slice_index, List, [], ◌∷◌, ◌++◌, Option, Some, None, refl, sym, ap, subst, append_assoc, append-nil, length-append, arith}
 use Rattle.std.specs.Prelude.{unsigned_abs}
 use Rattle.std.specs.Arc.{arc_value}
 use Rattle.std.specs.List.{AllByRecursion}
@@ -19,10 +19,10 @@ use Rattle.event_tape.specs.declared.tape.TapeEnd.TheVariants.{Behind, NoMemory,
 use Rattle.event_tape.specs.declared.told.Told.{Told}
 use Rattle.event_tape.specs.declared.told.Told.TheVariants.{Load, Open, Shut, Receive, Take, Carry, Break, Solve, Tick, Drain}
 use Rattle.event_lines.specs.EventLines.{IsInRange, load_name}
-use Rattle.plant_record.specs.Books.{AreLoads, BeginsWith, Deed, File, IsBook, IsLoad, IsPage, IsReadAgain, Script, Topology, files, kept, next_part, told_in}
+use Rattle.plant_record.specs.Books.{BeginsWith, Deed, File, IsBook, IsLoad, IsPage, IsReadAgain, Script, Topology, files, kept, next_part, told_in}
 use Rattle.plant_record.specs.Parts.{Part, Title, last_tick, load_count, loaded_by, topologies}
 use Rattle.record_laws.specs.Records.{HoldsAll, IsTitle}
-use Rattle.record_laws.proofs.Items.{Comment, Item, Line, book_events, book_items, end_text, events_in, events_with, head_text, page_items, with_end, with_events}
+use Rattle.record_laws.proofs.Items.{Comment, Item, Line, book_events, book_items, end_text, events_in, head_text, page_items, with_end, with_events}
 use Rattle.record_laws.proofs.Printed.{Printed, Within, all_within, decimal_printed, is_printed, printed_append, printed_within, within_append}
 
 -- ---- topologies of events

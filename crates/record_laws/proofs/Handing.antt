@@ -1,7 +1,6 @@
 -- What is handed out of a day is what is told of its run, and is of its network.
-use Rattle.std.proofs.Common.{◌≡◌, ◌∙◌, ℕ, List, [], ◌∷◌, ◌++◌, map, refl, sym, ap, subst, append_assoc}
-use Rattle.std.specs.Prelude.{None}
-use Rattle.std.specs.List.{AllByRecursion, filter_map}
+use Rattle.std.proofs.Common.{◌≡◌, ◌∙◌, List, [], ◌∷◌, ◌++◌, map, sym, ap, subst, append_assoc}
+use Rattle.std.specs.List.{AllByRecursion}
 use Rattle.std.proofs.lemmas.List.Elements.{filter_map-append}
 use Rattle.plant_text.specs.declared.settings.NetworkParts.{NetworkParts}
 use Rattle.event_tape.specs.Hands.{told_of}
@@ -11,13 +10,13 @@ use Rattle.event_tape.specs.declared.told.Told.{Told}
 use Rattle.event_tape.specs.declared.told.Told.TheVariants.{Load, Open, Shut, Receive, Take, Carry, Break, Solve, Tick, Drain}
 use Rattle.event_lines.specs.EventLines.{IsOf}
 use Rattle.plant_lock.specs.History.{replay}
-use Rattle.plant_network.specs.Histories.{AreGiven, done_by, events_of}
+use Rattle.plant_network.specs.Histories.{done_by, events_of}
 use Rattle.plant_network.specs.Turns.{left_by}
 use Rattle.plant_network.specs.Whole.{Whole}
 use Rattle.plant_network.specs.declared.acts.Act.{Act}
 use Rattle.plant_network.specs.declared.acts.ActAnswer.{ActAnswer}
 use Rattle.plant_network.specs.plant_model.declared.event.Event.{Event}
-use Rattle.plant_network.specs.plant_model.Plant.{Entry, Plant, Run}
+use Rattle.plant_network.specs.plant_model.Plant.{Entry, Run}
 use Rattle.plant_network.specs.plant_model.RealWire.{wire}
 use Rattle.plant_network.proofs.HistoryLemmas.{histories_are_runs}
 use Rattle.told_laws.specs.Telling.{told}
@@ -29,7 +28,7 @@ use Rattle.kept_plant.specs.Turns.{Kept, kept_after}
 use Rattle.kept_plant.specs.declared.acts.KeptAct.{KeptAct}
 use Rattle.kept_plant.specs.declared.acts.KeptAnswer.{KeptAnswer}
 use Rattle.kept_plant.proofs.Handing.{hands_tell}
-use Rattle.record_laws.specs.Days.{AreHandsOf, HandsAreSaid, HasOctets, IsDay, IsSayable, events_by}
+use Rattle.record_laws.specs.Days.{AreHandsOf, HandsAreSaid, IsDay, IsSayable, events_by}
 use Rattle.record_laws.proofs.Known.{IsKnown, told_known}
 use Rattle.record_laws.proofs.Shapes.{day_told}
 

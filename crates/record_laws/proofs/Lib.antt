@@ -11,3 +11,4 @@ pub mod Written
 pub mod Playing
 pub mod Rightly
 pub mod Replaying
+pub mod Leaving

@@ -1,29 +1,27 @@
 -- Lines of a record that are played do what is told of its run, event by event.
-use Rattle.std.proofs.Common.{◌≡◌, ◌∙◌, ℕ, zero, suc, ◌+◌, ◌-◌, ◌<◌, ◌^◌, Bool, true, false, cond, not, ◌&&◌, ◌||◌, ◌==◌, codes, length, take, get_or, slice_index, map, List, [], ◌∷◌, ◌++◌, reverse, ◌⊎◌, Option, Some, None, Ok, refl, sym, ap, ap₂, subst, append_assoc, append-nil, length-append, arith, inl, inr}
+use Rattle.std.proofs.Common.{◌≡◌, ◌∙◌, ℕ, suc, ◌+◌, ◌-◌, ◌<◌, ◌^◌, Bool, true, false, cond, not, ◌&&◌, ◌||◌, ◌==◌, codes, length, take, get_or, slice_index, map, List, [], ◌∷◌, ◌++◌, reverse, ◌⊎◌, Option, Some, None, Ok, refl, sym, ap, subst, append_assoc, append-nil, length-append, arith, inl, inr}
 use Rattle.std.specs.Arc.{arc_value}
 use Rattle.std.specs.List.{AllByRecursion, list_all}
 use Rattle.std.specs.Str.Lines.{strip_carriage_return}
 use Rattle.std.proofs.Math.Seq.{get_or-append_seam}
 use Rattle.std.proofs.lemmas.List.{map-append, reverse-append, reverse-reverse}
 use Rattle.dom_edge.specs.Stores.{Files}
-use Rattle.dom_base.specs.Steps.{◌>>=◌}
 use Rattle.line_text.specs.Lines.{is_skipped}
 use Rattle.line_text.specs.Spelling.{IsWord, joined}
-use Rattle.line_text.specs.Words.{is_blank, is_trimmed, words_of}
+use Rattle.line_text.specs.Words.{is_blank, is_trimmed}
 use Rattle.te_links.specs.Rows.{Rows}
 use Rattle.te_text.specs.Reads.{Reads}
 use Rattle.te_text.specs.TopologyText.{topology_text}
 use Rattle.plant_text.specs.Faults.{AreObeyed}
-use Rattle.plant_text.specs.Lines.{event_in, line_in}
+use Rattle.plant_text.specs.Lines.{line_in}
 use Rattle.plant_text.specs.Rules.{rules_of}
 use Rattle.plant_text.specs.declared.line.LineEvent.{LineEvent}
 use Rattle.plant_text.specs.declared.line.LineEvent.TheVariants as line
 use Rattle.plant_text.specs.declared.settings.NetworkParts.{NetworkParts}
-use Rattle.plant_text.specs.declared.settings.PeerRow.{PeerRow}
 use Rattle.event_tape.specs.Tapes.{event_of}
 use Rattle.event_tape.specs.declared.told.Told.{Told}
 use Rattle.event_tape.specs.declared.told.Told.TheVariants.{Load, Open, Shut, Receive, Take, Carry, Break, Solve, Tick, Drain}
-use Rattle.event_lines.specs.EventLines.{IsInRange, IsOf, LinesSayEvents, SaysEvent, event_words, line_of as line_event, peer_name}
+use Rattle.event_lines.specs.EventLines.{IsInRange, LinesSayEvents, SaysEvent, event_words, line_of as line_event, peer_name}
 use Rattle.plant_record.specs.Parts.{load_count}
 use Rattle.plant_network.specs.plant_model.declared.event.Event.{Event}
 use Rattle.plant_network.specs.plant_model.declared.event.Event.TheVariants as event
@@ -37,16 +35,14 @@ use Rattle.run_laws.proofs.plant_laws.Blind.OneStep.{steps_are_one}
 use Rattle.told_laws.specs.Playing.{AreAccepted}
 use Rattle.client_laws.specs.plant_play.Cues.{HasText, file_name}
 use Rattle.client_laws.specs.plant_play.Playing.{IsNewNetwork, Plays, PlaysNone, PlaysOne, PlayedNetwork}
-use Rattle.client_laws.specs.plant_play.Replays.{IsPassed, IsPlayedLine, PassesLine, Replays}
-use Rattle.client_laws.specs.plant_play.Turns.{IsTurn, Turn, entries_of}
-use Rattle.client_laws.specs.plant_play.WholeScripts.{IsCue}
+use Rattle.client_laws.specs.plant_play.Replays.{IsPassed, PassesLine, Replays}
+use Rattle.client_laws.specs.plant_play.Turns.{Turn, entries_of}
 use Rattle.client_laws.specs.plant_play.declared.replaying.Span.{Span}
-use Rattle.client_laws.specs.plant_play.transcript.Stops.{numbered}
 use Rattle.record_laws.specs.Days.{IsSayable, events_by}
-use Rattle.record_laws.specs.Records.{AreShowing, ShowsMore}
+use Rattle.record_laws.specs.Records.{AreShowing}
 use Rattle.record_laws.proofs.Fine.{AllFine, IsFiled, IsFineLine, IsRemark}
 use Rattle.record_laws.proofs.Handing.{is_of}
-use Rattle.record_laws.proofs.Items.{Comment, Item, Line, events_in, line_of, lines_of}
+use Rattle.record_laws.proofs.Items.{Comment, Item, Line, events_in, lines_of}
 use Rattle.record_laws.proofs.Known.{IsKnown}
 use Rattle.record_laws.proofs.Printed.{Printed, printed_append, printed_stays, words_printed}
 

@@ -1,11 +1,10 @@
 -- Octets that are printed: numbers, names and words have no line end.
-use Rattle.std.proofs.Common.{◌≡◌, ◌≢◌, ◌∙◌, ℕ, zero, suc, ◌+◌, ◌-◌, ◌*◌, ◌/◌, ◌%◌, ◌<◌, ◌≤◌, ltb, Bool, true, false, not, ◌&&◌, ◌==◌, cond, nat_le, codes, List, [], ◌∷◌, ◌++◌, All, length, take, get_or, slice_index, refl, sym, ap, subst, arith, inl, inr}
+use Rattle.std.proofs.Common.{◌≡◌, ◌≢◌, ◌∙◌, ℕ, zero, suc, ◌+◌, ◌-◌, ◌/◌, ◌%◌, ◌<◌, ◌≤◌, ltb, Bool, true, false, not, ◌==◌, cond, nat_le, List, [], ◌∷◌, ◌++◌, length, get_or, refl, sym, ap, arith}
 use Rattle.std.specs.Fmt.{decimal, digit_glyph, digits, digits_onto}
 use Rattle.std.specs.List.{AllByRecursion, list_all}
 use Rattle.std.specs.Str.Lines.{strip_carriage_return}
-use Rattle.std.proofs.lemmas.Bool.{and_from, and_parts, ne_eqb, cases_Bool, le-leb, leb-true}
+use Rattle.std.proofs.lemmas.Bool.{and_from, and_parts, ne_eqb, le-leb, leb-true}
 use Rattle.std.proofs.lemmas.List.Folds.{list_all-append}
-use Rattle.std.proofs.lemmas.List.Elements.{All-from_recursion, recursion_from_All}
 
 abbrev pub is_printed : ℕ → Bool
 is_printed c = nat_le 32 c

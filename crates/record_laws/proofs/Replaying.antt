@@ -1,10 +1,9 @@
 -- A record that is played.
-use Rattle.std.proofs.Common.{◌≡◌, ◌≢◌, ◌∙◌, ℕ, ◌+◌, ◌^◌, ◌<◌, Bool, true, false, length, map, List, [], ◌∷◌, ◌++◌, Option, Some, None, refl, sym, ap, subst, append_assoc, append-nil, inl, inr}
+use Rattle.std.proofs.Common.{◌≡◌, ◌≢◌, ◌∙◌, ℕ, Bool, true, false, map, List, [], ◌∷◌, ◌++◌, Option, Some, None, refl, sym, ap, subst, append_assoc, append-nil, inl, inr}
 use Rattle.std.specs.Arc.{arc_value}
 use Rattle.std.specs.List.{AllByRecursion}
 use Rattle.std.proofs.lemmas.List.{map-append}
-use Rattle.std.proofs.lemmas.List.Elements.{All-nil, All-cons, recursion_from_All, All-head, All-tail}
-use Rattle.dom_edge.specs.Folders.{Contents}
+use Rattle.std.proofs.lemmas.List.Elements.{All-nil, All-cons, recursion_from_All}
 use Rattle.dom_edge.specs.Stores.{Files}
 use Rattle.plant_text.specs.Faults.{AreObeyed, first_of}
 use Rattle.line_text.specs.Spelling.{joined}
@@ -39,23 +38,20 @@ use Rattle.told_laws.specs.Telling.{told}
 use Rattle.told_laws.proofs.Playing.{parts_are_played}
 use Rattle.told_laws.proofs.Telling.{told_is_run}
 use Rattle.kept_plant.specs.Handing.{HandTells, end_told}
-use Rattle.kept_plant.specs.Histories.{turns_of}
-use Rattle.kept_plant.specs.Tellings.{tellings}
 use Rattle.kept_plant.specs.Turns.{Kept, kept_after}
 use Rattle.kept_plant.specs.declared.acts.KeptAct.{KeptAct}
 use Rattle.kept_plant.specs.declared.acts.KeptAnswer.{KeptAnswer}
 use Rattle.kept_plant.proofs.Handing.{hands_tell}
-use Rattle.client_laws.specs.Headline.{IsRight}
 use Rattle.client_laws.specs.plant_play.Playing.{PlayedNetwork}
-use Rattle.client_laws.specs.plant_play.Replays.{HasNoEnd, Replaying, Replays, octets_of}
+use Rattle.client_laws.specs.plant_play.Replays.{HasNoEnd, Replaying, octets_of}
 use Rattle.client_laws.specs.plant_play.Turns.{Turn, entries_of}
 use Rattle.client_laws.specs.plant_play.declared.replaying.Span.{Span}
 use Rattle.record_laws.specs.Days.{AreHandsOf, HasOctets, IsDay, events_by}
-use Rattle.record_laws.specs.Records.{AreAllLines, AreFirstLines, AreShowing, HasAll, HoldsAll, IsReadable, IsRecord, IsTitle, IsWholeRecord, ShowsMore, script_of}
+use Rattle.record_laws.specs.Records.{AreShowing, HasAll, IsReadable, IsTitle, ShowsMore, script_of}
 use Rattle.record_laws.specs.Replayed.{IsReplayed, IsReplayedToEnd, RecordsAreReadable, RecordsAreReplayed, WholeRecordsAreReplayed}
 use Rattle.record_laws.proofs.Fine.{AllFine, IsFiled, IsFineLine}
 use Rattle.record_laws.proofs.Firsts.{AllWithin, AreLast, first_lines}
-use Rattle.record_laws.proofs.Handing.{DayRun, HandsOfRun, hands_of_run}
+use Rattle.record_laws.proofs.Handing.{HandsOfRun, hands_of_run}
 use Rattle.record_laws.proofs.Items.{Comment, Item, Line, events_in, line_of, lines_of}
 use Rattle.record_laws.proofs.Known.{IsKnown, told_known}
 use Rattle.record_laws.proofs.Playing.{Follows, items_follow, known_front, known_last, line_printed, remark_says, said}
@@ -74,7 +70,7 @@ obeyed_of [] none = All-nil IsUnbroken
 obeyed_of ((true, x) ∷ rs) none = absurd (let no : Some x ≡ None = none in cc)
 obeyed_of ((false, x) ∷ rs) none = All-cons IsUnbroken (false, x) rs refl (obeyed_of rs none)
 
-rules_hold : (bytes : List ℕ) (n : NetworkParts) → Reads bytes n → AreObeyed (rules_of n)
+pub rules_hold : (bytes : List ℕ) (n : NetworkParts) → Reads bytes n → AreObeyed (rules_of n)
 rules_hold bytes n r =
     let s = sheet_in r.root in
     subst (λ (m : NetworkParts). AreObeyed (rules_of m)) (sym r.rows) (obeyed_of (rules_of s.parts) (settings_clear s (none_of (rules s) r.obeyed)))

@@ -1,6 +1,5 @@
 -- The script of a folder is the texts of its parts.
-use Rattle.std.proofs.Common.{◌≡◌, ◌∙◌, ℕ, ◌+◌, ◌-◌, Bool, true, false, cond, codes, decimal, drop, take, length, List, [], ◌∷◌, ◌++◌, replicate, reverse, refl, sym, ap, subst, append_assoc, append-nil, length-append, arith, inl, inr}
-use Rattle.std.specs.List.{flat_map}
+use Rattle.std.proofs.Common.{◌≡◌, ◌∙◌, ℕ, ◌+◌, ◌-◌, Bool, true, false, cond, codes, decimal, drop, take, length, List, [], ◌∷◌, ◌++◌, replicate, reverse, refl, sym, ap, append_assoc, append-nil, length-append, arith, inl, inr}
 use Rattle.std.specs.Str.{bytes_eq}
 use Rattle.std.proofs.Math.Seq.{drop-append_seam}
 use Rattle.std.proofs.lemmas.Bool.{cases_Bool}
@@ -11,7 +10,7 @@ use Rattle.plant_text.specs.declared.settings.PeerRow.{PeerRow}
 use Rattle.event_lines.specs.EventLines.{load_name}
 use Rattle.te_text.specs.TopologyText.{topology_text}
 use Rattle.plant_record.specs.Books.{Deed, File, Script, Topology, files, kept, next_part, part_count}
-use Rattle.plant_record.specs.Parts.{Title, part_name, part_text, settings_name}
+use Rattle.plant_record.specs.Parts.{Title, part_name, part_text}
 use Rattle.record_laws.specs.Records.{is_part, script_of}
 use Rattle.record_laws.proofs.Items.{parts_text}
 

@@ -1,5 +1,5 @@
 -- What an event answers: octets where it drains, and else none. So what is told of turns is what is told of their entries.
-use Rattle.std.proofs.Common.{◌≡◌, ◌∙◌, ℕ, suc, Bool, true, false, cond, not, ◌&&◌, ◌==◌, length, List, [], ◌∷◌, ◌++◌, map, Option, Some, None, is_some, Ok, Err, refl, sym, ap, ap₂, subst, inl, inr, append_assoc, append-nil, arith}
+use Rattle.std.proofs.Common.{◌≡◌, ◌∙◌, ℕ, Bool, true, false, cond, not, ◌==◌, length, List, [], ◌∷◌, ◌++◌, map, Option, Some, None, is_some, Ok, Err, refl, sym, ap, ap₂, subst, inl, inr, append_assoc, append-nil, arith}
 use Rattle.std.specs.List.{cons_option}
 use Rattle.std.proofs.lemmas.Bool.{ne_eqb}
 use Rattle.std.proofs.lemmas.List.{map-append}
@@ -15,11 +15,10 @@ use Rattle.plant_network.specs.plant_model.declared.outcome.Outcome.TheVariants.
 use Rattle.plant_network.specs.plant_model.declared.outcome.Refused.{Refused}
 use Rattle.plant_network.specs.plant_model.Names.{is_empty}
 use Rattle.plant_network.specs.plant_model.Wire.{Bytes, Codec}
-use Rattle.plant_network.specs.plant_model.Blind.{is_accepted}
 use Rattle.plant_network.specs.plant_model.State.{Connection}
 use Rattle.plant_network.specs.plant_model.Events as events
 use Rattle.plant_network.specs.plant_model.Events.{Answered}
-use Rattle.plant_network.specs.plant_model.Plant.{Entry, Happened, Happens, Pin, Plant, Run, Segment, Steps, is_full, load, load_new, refused as no_load}
+use Rattle.plant_network.specs.plant_model.Plant.{Entry, Happened, Happens, Pin, Plant, Run, Segment, Steps, is_full, load, load_new}
 use Rattle.plant_network.specs.plant_model.RealWire.{wire}
 use Rattle.plant_network.specs.Histories.{done_by, event_of, events_of}
 use Rattle.plant_network.specs.declared.acts.Act.{Act}
@@ -31,7 +30,7 @@ use Rattle.plant_network.specs.declared.acts.ActAnswer.{ActAnswer}
 use Rattle.plant_lock.specs.History.{Legal}
 use Rattle.plant_network.specs.Turns.{Admits, Allowed, IsAnswer, left_by, solve_of}
 use Rattle.plant_network.specs.Whole.{Whole}
-use Rattle.kept_plant.specs.Tellings.{event_in, tellings, tells, told_event}
+use Rattle.kept_plant.specs.Tellings.{tellings, tells, told_event}
 use Rattle.told_laws.specs.Telling.{is_told, told}
 use Rattle.record_laws.specs.Days.{events_by}
 

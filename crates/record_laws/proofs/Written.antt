@@ -1,5 +1,5 @@
 -- The lines of a record's script: they begin those of its events, each of which has what its line names.
-use Rattle.std.proofs.Common.{◌≡◌, ◌∙◌, ℕ, ◌+◌, List, [], ◌∷◌, ◌++◌, length, Option, Some, None, refl, sym, ap, ap₂, subst, append_assoc, append-nil}
+use Rattle.std.proofs.Common.{◌≡◌, ◌∙◌, ℕ, ◌+◌, List, [], ◌∷◌, ◌++◌, Option, Some, refl, sym, ap, ap₂, subst, append_assoc, append-nil}
 use Rattle.dom_edge.specs.Folders.{Contents}
 use Rattle.dom_edge.specs.Stores.{Files}
 use Rattle.te_links.specs.Rows.{Rows}

@@ -1,5 +1,5 @@
 -- The record of a day: the files of its run, and the lines of its script.
-use Rattle.std.specs.Prelude.{◌≡◌, ◌⊎◌, ℕ, ◌-◌, cond, codes, drop, length, List, [], ◌∷◌, ◌++◌, Bool, Option, Some, None}
+use Rattle.std.specs.Prelude.{◌≡◌, ◌⊎◌, ℕ, ◌-◌, cond, codes, drop, length, List, [], ◌++◌, Bool, Option, Some, None}
 use Rattle.std.specs.List.{AllByRecursion, flat_map}
 use Rattle.std.specs.Str.{bytes_eq}
 use Rattle.std.specs.Str.Lines.{strip_carriage_return}
@@ -15,7 +15,8 @@ use Rattle.event_tape.specs.declared.tape.TapeEnd.{TapeEnd}
 use Rattle.event_tape.specs.declared.told.Told.{Told}
 use Rattle.plant_record.specs.Books.{File}
 use Rattle.plant_record.specs.Parts.{Title}
-use Rattle.plant_record.specs.Recording.{IsPart, IsWhole}
+use Rattle.plant_record.specs.Recording.{IsPart, IsWhole, Leaves}
+use Rattle.plant_record.specs.declared.recorded.Recorded.{Recorded}
 use Rattle.client_laws.specs.plant_play.Cues.{file_name}
 use Rattle.client_laws.specs.plant_play.Replays.{AreAllOf, AreFirstOf, HasNoEnd}
 
@@ -43,6 +44,10 @@ pub record IsRecord (n : NetworkParts) (told : List Told) (c : Contents) : Type 
   pub title : Title
   pub is_title : IsTitle n title
   pub part : IsPart n.peers title told (Some c)
+
+-- Whatever ended a record, its files are such.
+abbrev pub EndsAreRecords : Type 0
+EndsAreRecords = (n : NetworkParts) (t : Title) → IsTitle n t → (told : List Told) (end : Recorded) (c : Contents) → Leaves n.peers t told end (Some c) → IsRecord n told c
 
 -- All of them do, and a last line may say how the tape ended.
 pub record IsWholeRecord (n : NetworkParts) (told : List Told) (c : Contents) : Type 0 where

@@ -1,5 +1,6 @@
 //! Laws of a record.
 ghost use Rattle.record_laws.specs.Days.{HandsAreSaid};
+ghost use Rattle.record_laws.specs.Records.{EndsAreRecords};
 ghost use Rattle.record_laws.specs.Replayed.{RecordsAreReadable, RecordsAreReplayed, WholeRecordsAreReplayed};
 
 use event_lines::lines_say_events;
@@ -8,6 +9,11 @@ use event_lines::lines_say_events;
 /// types, and octets where octets came, its line says it.
 pub fn hands_are_said()
     ensures { HandsAreSaid }
+{}
+
+/// Whatever ends a record, by the tape or a fault, it leaves the files of one: some first of the events that were handed out.
+pub fn ends_are_records()
+    ensures { EndsAreRecords }
 {}
 
 /// The lines of a record have the form of lines of scripts, and the topologies that they name are there, where octets came with each

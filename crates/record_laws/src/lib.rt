@@ -5,5 +5,6 @@
 mod laws;
 
 pub use laws::{
-    hands_are_said, records_are_readable, records_are_replayed, whole_records_are_replayed,
+    ends_are_records, hands_are_said, records_are_readable, records_are_replayed,
+    whole_records_are_replayed,
 };

@@ -1,0 +1,3 @@
+-- for readers
+pub mod Opening
+pub mod Writing
