@@ -1,7 +1,9 @@
-use Rattle.std.proofs.Common.{◌≡◌, take}
-use Rattle.std.specs.Prelude.{count_by}
-use Rattle.pce_common.specs.plant_model.Element.{Row, is_ready}
+use Rattle.std.proofs.Common.{◌≡◌, ◌≤◌, ◌+◌, length, drop}
+use Rattle.pce_common.specs.plant_model.Element.{ready_numbers}
 use Rattle.pce_element.proofs.pinned.PinnedRequests.ready_count.Given as goal
 
 abbrev pub invariant-loop-i : goal.invariant-loop-i
-invariant-loop-i g l = l.count ≡ count_by (λ (r : Row _). is_ready r.1.item.stage) (take l.i l.self.pending.rows)
+invariant-loop-i g l = record {
+  all : l.count + length (ready_numbers (drop l.i l.self.pending.rows)) ≡ length (ready_numbers l.self.pending.rows);
+  few : l.count ≤ l.i;
+}
