@@ -78,6 +78,14 @@ impl Queue {
         }
     }
 
+    /// How many messages there are; takes no memory.
+    pub fn len(&self) -> usize
+        ensures { result ≡ length self.now.kept }
+    {
+        let (upper, lower) = self.lengths.as_slices();
+        upper.len() + lower.len()
+    }
+
     /// Whether there is no message.
     pub fn is_empty(&self) -> bool
         ensures { result ≡ (length self.now.kept == 0) }
