@@ -3,8 +3,8 @@
 #![tactic(auto)]
 
 mod counts;
-mod surveyed;
 mod survey;
+mod surveyed;
 mod tape;
 
 pub use counts::{AnswerCounts, CountFigures, LinkCounts, OctetCounts, PeerCounts, TakenCounts};

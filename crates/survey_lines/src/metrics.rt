@@ -113,11 +113,7 @@ fn push_messages(
     push_of_peers(answers, kind, PeerText::Answers, parts, surveyed, into)
 }
 
-fn push_load(
-    parts: &NetworkParts,
-    surveyed: &Surveyed,
-    into: &mut Vec<u8>,
-) -> Result<(), NoMemory>
+fn push_load(parts: &NetworkParts, surveyed: &Surveyed, into: &mut Vec<u8>) -> Result<(), NoMemory>
     ensures { OnOk result (into.new.items ≡ into.old.items ++ load_text parts.now surveyed.now) }
 {
     let help = b"pce_pending Requests that wait.";
@@ -128,11 +124,7 @@ fn push_load(
     push_of_elements(help, kind, ElementText::Generation, parts, surveyed, into)
 }
 
-fn push_room(
-    parts: &NetworkParts,
-    surveyed: &Surveyed,
-    into: &mut Vec<u8>,
-) -> Result<(), NoMemory>
+fn push_room(parts: &NetworkParts, surveyed: &Surveyed, into: &mut Vec<u8>) -> Result<(), NoMemory>
     ensures { OnOk result (into.new.items ≡ into.old.items ++ room_text parts.now surveyed.now) }
 {
     let help = b"pce_generations_live Topologies that are current or asked of, of 16.";
@@ -166,11 +158,7 @@ fn push_ended(ended: bool, into: &mut Vec<u8>) -> Result<(), NoMemory>
     push_bare_sample(b"pce_record_ended", one_if(ended), into)
 }
 
-fn push_record(
-    has_record: bool,
-    tape: &TapeFigures,
-    into: &mut Vec<u8>,
-) -> Result<(), NoMemory>
+fn push_record(has_record: bool, tape: &TapeFigures, into: &mut Vec<u8>) -> Result<(), NoMemory>
     ensures { OnOk result (into.new.items ≡ into.old.items ++ record_text has_record tape.now) }
 {
     if !has_record {

@@ -83,7 +83,12 @@ fn push_rows(
         survey.elements.as_slice(),
         into,
     )?;
-    push_links(number, survey.links.as_slice(), counts.links.as_slice(), into)
+    push_links(
+        number,
+        survey.links.as_slice(),
+        counts.links.as_slice(),
+        into,
+    )
 }
 
 fn push_all(
