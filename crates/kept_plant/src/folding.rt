@@ -4,7 +4,7 @@ ghost use Rattle.event_tape.specs.Tapes.{event_of};
 ghost use Rattle.plant_network.specs.Topologies.{whole};
 ghost use Rattle.plant_network.specs.Turns.{Admits, Allowed, left_by, solve_of};
 ghost use Rattle.kept_plant.specs.Tellings.{Folds, event_in, is_idle, tells, told_event};
-ghost use Rattle.kept_plant.specs.Folding.{IsBegunAt, IsBegunOn, Keeps, KeepsIf};
+ghost use Rattle.kept_plant.specs.Folding.{IsBegun, IsBegunAt, IsBegunOn, Keeps, KeepsIf};
 
 use crate::telling::tell_load;
 use dom_base::As;
@@ -56,17 +56,24 @@ fn begin_event(alloc: Global, event: &Event) -> Begun
     }
 }
 
-// A tape that has ended costs a test alone.
-fn begin(alloc: Global, tape: &Tape, act: &Act) -> Begun
-    ensures { IsBegunOn tape.now.ended (event_in act.now) result }
+fn begin_act(alloc: Global, act: &Act) -> Begun
+    ensures { IsBegun (event_in act.now) result }
 {
-    if !tape.is_open() {
-        return Begun::Nothing;
-    }
     match act {
         Act::Do(event) => begin_event(alloc, event),
         Act::Finish(done) => Begun::Item(told_solve(done)),
         _ => Begun::Nothing,
+    }
+}
+
+// A tape that has ended costs a test alone.
+fn begin(alloc: Global, tape: &Tape, act: &Act) -> Begun
+    ensures { IsBegunOn tape.now.ended (event_in act.now) result }
+{
+    if tape.is_open() {
+        begin_act(alloc, act)
+    } else {
+        Begun::Nothing
     }
 }
 
