@@ -28,12 +28,13 @@ use Rattle.plant_model.specs.declared.outcome.Refused.{Refused}
 use Rattle.plant_model.specs.declared.outcome.Refused.TheVariants.{NoSuchPeer}
 use Rattle.transcript.specs.Lines.{answer_line}
 use Rattle.ted_watch.specs.declared.shown.Shown.{Shown}
-use Rattle.server_loops.specs.Charts.{Asks, Call, Charted, Current, Did, Mapped, current_of}
-use Rattle.server_loops.specs.Operating.{Context, Does, DoesAsked, DoesEvent, DoesShut, IsEndOf, IsFirstPart, Loads, Past, Publishes, ShowsMapped, Progress, WithFile, Work, is_done, line_most, past, shown_by}
+use Rattle.server_loops.specs.Charts.{Asks, Call, Charted, Current, Did, Mapped, Saw, Sees, current_of}
+use Rattle.server_loops.specs.Operating.{Context, Does, DoesAsked, DoesEvent, DoesShut, DoesShow, IsEndOf, IsFirstPart, IsUnmoved, IsWritten, LeavesShelf, Loads, Past, Publishes, ShowsMapped, ShowsSurvey, Progress, WithFile, Work, WritesFile, has_slash, has_subject, is_done, line_most, past, shown_by}
 use Rattle.server_loops.specs.OperatorSteps.{Acted, Asked, DoesFile, DoesTask, DoesText, EndsAs, answered, Goes, IsBegun, IsFile, IsPartDone, Refuses, shut_task, task_of, text_of}
 use Rattle.network_files.specs.Faults.{fault_text}
 use Rattle.server_loops.specs.Texts.{bad_network_text, read_fault_text, too_large_text}
 use Rattle.server_loops.specs.declared.lines.Task.{Task}
+use Rattle.server_loops.specs.declared.lines.Task.TheVariants.{Write}
 use Rattle.server_loops.specs.declared.operating.Operated.{Operated}
 use Rattle.server_loops.specs.declared.operating.Operated.TheVariants.{End, ReadFault, Turns, Spent, NoMemory}
 
@@ -391,6 +392,46 @@ asked_task x number (line.Show subject) a b w does = does
 asked_task x number (line.Shut peer) a b w does = asked_shut x number peer a b w does
 asked_task x number (line.Break u v) a b w does = does
 asked_task x number (line.Write at name) a b w does = does
+
+-- a line that makes no file
+pub leaves_shelf : (asked : Option (Option OperatorLine)) (a b : Progress) → b.shelf ≡ a.shelf → LeavesShelf asked a b
+leaves_shelf None a b same = same
+leaves_shelf (Some None) a b same = same
+leaves_shelf (Some (Some (line.Load at name))) a b same = same
+leaves_shelf (Some (Some (line.Change at name))) a b same = same
+leaves_shelf (Some (Some line.Stop)) a b same = same
+leaves_shelf (Some (Some (line.Show subject))) a b same = same
+leaves_shelf (Some (Some (line.Shut peer))) a b same = same
+leaves_shelf (Some (Some (line.Break u v))) a b same = same
+leaves_shelf (Some (Some (line.Write at name))) a b same = λ none. same
+
+-- a line that makes no call
+pub unmoved_by : (asked : Option (Option OperatorLine)) (a b : Progress) → LeavesShelf asked a b → b.past ≡ a.past → IsUnmoved a b
+unmoved_by None a b leaves same = (same, leaves)
+unmoved_by (Some None) a b leaves same = (same, leaves)
+unmoved_by (Some (Some (line.Load at name))) a b leaves same = (same, leaves)
+unmoved_by (Some (Some (line.Change at name))) a b leaves same = (same, leaves)
+unmoved_by (Some (Some line.Stop)) a b leaves same = (same, leaves)
+unmoved_by (Some (Some (line.Show subject))) a b leaves same = (same, leaves)
+unmoved_by (Some (Some (line.Shut peer))) a b leaves same = (same, leaves)
+unmoved_by (Some (Some (line.Break u v))) a b leaves same = (same, leaves)
+unmoved_by (Some (Some (line.Write at name))) a b leaves same = (same, leaves (ap (λ (p : Past). p.calls) same))
+
+write_of : (e : OperatorLine) (at : As) (name : List ℕ) → task_of e ≡ Write at name → (s : As) × (k : List ℕ) × (e ≡ line.Write s k)
+write_of (line.Load s k) at name is = absurd (cc is)
+write_of (line.Change s k) at name is = absurd (cc is)
+write_of line.Stop at name is = absurd (cc is)
+write_of (line.Show subject) at name is = absurd (cc is)
+write_of (line.Shut None) at name is = absurd (cc is)
+write_of (line.Shut (Some peer)) at name is = absurd (cc is)
+write_of (line.Break u v) at name is = absurd (cc is)
+write_of (line.Write s k) at name is = (s, k, refl)
+
+-- a line that asks for a file
+pub leaves_by : (e : OperatorLine) (at : As) (name : List ℕ) (a b : Progress) → task_of e ≡ Write at name → (b.past.calls ≡ a.past.calls → b.shelf ≡ a.shelf) → LeavesShelf (Some (Some e)) a b
+leaves_by e at name a b is unasked =
+    let w = write_of e at name is in
+    subst (λ (o : OperatorLine). LeavesShelf (Some (Some o)) a b) (sym w.2) unasked
 
 pub asked_goes_task : (x : Context) (number : ℕ) (e : OperatorLine) (t : Task) (a b : Progress) (r : Result (Unit {0}) Operated) (p q : Past) (spent : Option ℕ) (before after : List ℕ) → task_of e ≡ t → Goes (DoesTask x number t a b) r p q spent before after → Goes (DoesAsked x number (Some (Some e)) a b) r p q spent before after
 asked_goes_task x number e t a b r p q spent before after is goes =

@@ -8,17 +8,17 @@ use Rattle.server_loops.proofs.lines.do_line.Goals as goal
 
 pub returns-then-is_too_long-clause-goes : goal.returns-then-is_too_long-clause-goes
 returns-then-is_too_long-clause-goes g c = λ line is.
-    let a = progress (g.D.Chart.charted c.args.desk.now) (published c.args.publisher.now) (g.T.Store.faults c.args.store.now) (g.T.Store.failed_at c.args.store.now) in
-    long_goes (context c.args.network.now (g.T.Store.files c.args.store.now)) c.args.number a a (text_of c.args.has_end line) c.tell_too_long.result a.past (g.D.Chart.charted c.args.desk.now).spent c.args.into.now.items c.tell_too_long.new.into.items
+    let a = progress (g.D.Chart.charted c.args.desk.now) (published c.args.publisher.now) (g.T.Shelf.faults c.args.store.now) (g.T.Shelf.failed_at c.args.store.now) (g.T.Shelf.shelved c.args.store.now) in
+    long_goes (context c.args.network.now (g.T.Shelf.files c.args.store.now) c.args.run_name.now) c.args.number a a (text_of c.args.has_end line) c.tell_too_long.result a.past (g.D.Chart.charted c.args.desk.now).spent c.args.into.now.items c.tell_too_long.new.into.items
     (sym (is_long_text c.args.has_end c.args.begun.now.bytes.items c.args.begun.now.is_long line is) ∙ sym c.is_too_long.ensures ∙ c.if-is_too_long.true)
     c.requires.fresh c.tell_too_long.ensures.told c.tell_too_long.ensures.lack
 
 pub returns-clause-goes : goal.returns-clause-goes
 returns-clause-goes g c = λ line is.
-    let x = context c.args.network.now (g.T.Store.files c.args.store.now) in
+    let x = context c.args.network.now (g.T.Shelf.files c.args.store.now) c.args.run_name.now in
     let n = c.args.number in
-    let a = progress (g.D.Chart.charted c.args.desk.now) (published c.args.publisher.now) (g.T.Store.faults c.args.store.now) (g.T.Store.failed_at c.args.store.now) in
-    let b = progress (g.D.Chart.charted c.do_text.new.desk) (published c.do_text.new.publisher) (g.T.Store.faults c.do_text.new.store) (g.T.Store.failed_at c.do_text.new.store) in
+    let a = progress (g.D.Chart.charted c.args.desk.now) (published c.args.publisher.now) (g.T.Shelf.faults c.args.store.now) (g.T.Shelf.failed_at c.args.store.now) (g.T.Shelf.shelved c.args.store.now) in
+    let b = progress (g.D.Chart.charted c.do_text.new.desk) (published c.do_text.new.publisher) (g.T.Shelf.faults c.do_text.new.store) (g.T.Shelf.failed_at c.do_text.new.store) (g.T.Shelf.shelved c.do_text.new.store) in
     let r = c.do_text.result in
     let spent = (g.D.Chart.charted c.do_text.new.desk).spent in
     let before = c.args.into.now.items in

@@ -8,10 +8,10 @@ use Rattle.server_loops.proofs.lines.do_text.Goals as goal
 
 pub returns-in-Ok-Some-clause-goes : goal.returns-in-Ok-Some-clause-goes
 returns-in-Ok-Some-clause-goes g c =
-    let x = context c.args.network.now (g.T.Store.files c.args.store.now) in
+    let x = context c.args.network.now (g.T.Shelf.files c.args.store.now) c.args.run_name.now in
     let k = c.args.number in
-    let a = progress (g.D.Chart.charted c.args.desk.now) (published c.args.publisher.now) (g.T.Store.faults c.args.store.now) (g.T.Store.failed_at c.args.store.now) in
-    let b = progress (g.D.Chart.charted c.do_asked.new.desk) (published c.do_asked.new.publisher) (g.T.Store.faults c.do_asked.new.store) (g.T.Store.failed_at c.do_asked.new.store) in
+    let a = progress (g.D.Chart.charted c.args.desk.now) (published c.args.publisher.now) (g.T.Shelf.faults c.args.store.now) (g.T.Shelf.failed_at c.args.store.now) (g.T.Shelf.shelved c.args.store.now) in
+    let b = progress (g.D.Chart.charted c.do_asked.new.desk) (published c.do_asked.new.publisher) (g.T.Shelf.faults c.do_asked.new.store) (g.T.Shelf.failed_at c.do_asked.new.store) (g.T.Shelf.shelved c.do_asked.new.store) in
     let spent = (g.D.Chart.charted c.do_asked.new.desk).spent in
     let before = c.args.into.now.items in
     let after = c.do_asked.new.into.items in
@@ -19,9 +19,9 @@ returns-in-Ok-Some-clause-goes g c =
 
 pub returns-in-Ok-None-clause-goes : goal.returns-in-Ok-None-clause-goes
 returns-in-Ok-None-clause-goes g c =
-    let x = context c.args.network.now (g.T.Store.files c.args.store.now) in
+    let x = context c.args.network.now (g.T.Shelf.files c.args.store.now) c.args.run_name.now in
     let k = c.args.number in
-    let a = (progress (g.D.Chart.charted c.args.desk.now) (published c.args.publisher.now) (g.T.Store.faults c.args.store.now) (g.T.Store.failed_at c.args.store.now)) in
+    let a = (progress (g.D.Chart.charted c.args.desk.now) (published c.args.publisher.now) (g.T.Shelf.faults c.args.store.now) (g.T.Shelf.failed_at c.args.store.now) (g.T.Shelf.shelved c.args.store.now)) in
     let spent = (g.D.Chart.charted c.args.desk.now).spent in
     let before = c.args.into.now.items in
     event_goes x k a a (Ok tt) a.past a.past spent before before (line_in c.args.network.now c.args.text.now) (Some None) (c.in-Ok-None.ensures ∙ ap Some c.in-Ok-None.field-0-is)
@@ -29,9 +29,9 @@ returns-in-Ok-None-clause-goes g c =
 
 pub returns-in-Err-Outside-clause-goes : goal.returns-in-Err-Outside-clause-goes
 returns-in-Err-Outside-clause-goes g c =
-    let x = context c.args.network.now (g.T.Store.files c.args.store.now) in
+    let x = context c.args.network.now (g.T.Shelf.files c.args.store.now) c.args.run_name.now in
     let k = c.args.number in
-    let a = progress (g.D.Chart.charted c.args.desk.now) (published c.args.publisher.now) (g.T.Store.faults c.args.store.now) (g.T.Store.failed_at c.args.store.now) in
+    let a = progress (g.D.Chart.charted c.args.desk.now) (published c.args.publisher.now) (g.T.Shelf.faults c.args.store.now) (g.T.Shelf.failed_at c.args.store.now) (g.T.Shelf.shelved c.args.store.now) in
     let spent = (g.D.Chart.charted c.args.desk.now).spent in
     let before = c.args.into.now.items in
     let after = c.tell_bad_line.new.into.items in
