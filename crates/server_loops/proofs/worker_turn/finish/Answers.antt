@@ -6,7 +6,7 @@ use Rattle.server_loops.specs.Benches.{Goes, Finish}
 use Rattle.server_loops.specs.WorkerSteps.{last_after}
 use Rattle.server_loops.specs.declared.benches.Finished.TheVariants.{Kept as Taken, Stranger, NoMemory as NoRoom}
 use Rattle.server_loops.proofs.Righting.{can_solve, last_of, sound_after}
-use Rattle.server_loops.proofs.WorkerTurning.{handed_back, unsolved}
+use Rattle.server_loops.proofs.WorkerTurning.{handed_back, no_room, unsolved}
 use Rattle.server_loops.proofs.worker_turn.finish.Goals as goal
 
 pub solve-requires : goal.solve-requires
@@ -33,6 +33,14 @@ returns-in-Kept-clause-finished g c =
           let goes : Goes old new (Finish done Stranger) = rw late at c.finish.ensures.goes in
           handed_back work old new before cache last done Stranger c.in_ok-done.ensures.of (λ is. let no : Stranger ≡ NoRoom = is in cc) goes is_last sound
     ]
+
+pub returns-in-NoMemory-clause-finished : goal.returns-in-NoMemory-clause-finished
+returns-in-NoMemory-clause-finished g c =
+    let old = g.B.Bench.benched c.args.bench.now in
+    let new = g.B.Bench.benched c.finish.new.self in
+    let done = c.in_ok-done.done in
+    let goes : Goes old new (Finish done NoRoom) = rw c.in-NoMemory.is at c.finish.ensures.goes in
+    no_room c.args.work old new c.args.unkept.now.last c.solve.new.cache c.solve.new.unkept.last done (record {}) c.in_ok-done.ensures.of goes
 
 pub returns-in_err-done-clause-finished : goal.returns-in_err-done-clause-finished
 returns-in_err-done-clause-finished g c =
