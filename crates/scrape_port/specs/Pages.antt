@@ -9,6 +9,10 @@ use Rattle.scrape_port.specs.declared.TheConstants.{OLD_SECONDS}
 use Rattle.scrape_port.specs.declared.surveyor.Unsurveyed.{Unsurveyed}
 use Rattle.scrape_port.specs.declared.surveyor.Unsurveyed.TheVariants.{NoMemory, Spent}
 
+-- where the old value stood the new one stands too
+abbrev pub Stays : {T S : Type 0} → (T → S → Type 0) → T → T → Type 0
+Stays {T} {S} is_at old new = (site : S) → is_at old site → is_at new site
+
 -- one survey more, or none
 abbrev pub Goes : List Surveyed → List Surveyed → Result Surveyed Unsurveyed → Type 0
 Goes old new (Ok s) = new ≡ old ++ s ∷ []

@@ -1,6 +1,6 @@
 //! What is told of a server, and kept for a while.
 ghost use Rattle.std.specs.Prelude.{◌≡◌, IfOk, None};
-ghost use Rattle.scrape_port.specs.Pages.{Renews, SurveysAnew, blank_page, is_young, kept_text, page_text};
+ghost use Rattle.scrape_port.specs.Pages.{Renews, Stays, SurveysAnew, blank_page, is_young, kept_text, page_text};
 
 use crate::OLD_SECONDS;
 use crate::surveyor::{Surveyor, Unsurveyed};
@@ -82,6 +82,7 @@ impl Page {
         surveyor: &mut D,
     ) -> Result<(), Unsurveyed>
         ensures surveys { SurveysAnew now.0 result self.old self.new (D.surveys surveyor.old) (D.surveys surveyor.new) }
+        ensures stays { Stays D.is_at surveyor.old surveyor.new }
     {
         let surveyed = surveyor.survey()?;
         match self.text_of(alloc, &surveyed) {
@@ -101,6 +102,7 @@ impl Page {
         surveyor: &mut D,
     ) -> Result<(), Unsurveyed>
         ensures renews { Renews now.0 result self.old self.new (D.surveys surveyor.old) (D.surveys surveyor.new) }
+        ensures stays { Stays D.is_at surveyor.old surveyor.new }
     {
         if self.is_young(now) {
             Ok(())

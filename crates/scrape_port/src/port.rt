@@ -2,6 +2,7 @@
 ghost use Rattle.std.specs.Prelude.{◌≡◌};
 ghost use Rattle.scrape_port.specs.Hearing.{clocked};
 ghost use Rattle.scrape_port.specs.Ports.{IsScrapeTurn, ScrapesPort, attended};
+ghost use Rattle.scrape_port.specs.Pages.{Stays};
 ghost use Rattle.scrape_port.specs.Scraping.{scraper};
 
 use crate::connection::scrape;
@@ -25,6 +26,7 @@ fn accept_once<K: Listener, C: Clock, D: Surveyor>(
     ensures port { K.opened_at listener.new ≡ K.opened_at listener.old }
     ensures heeds { K.heeds listener.new ≡ K.heeds listener.old }
     ensures dials { K.dialled_to listener.new ≡ K.dialled_to listener.old }
+    ensures stays { Stays D.is_at surveyor.old surveyor.new }
 {
     match listener.accept() {
         Accepted::Link(link) => {
@@ -48,6 +50,7 @@ pub fn serve_scrapes<K: Listener, C: Clock, D: Surveyor>(
     ensures port { K.opened_at listener.new ≡ K.opened_at listener.old }
     ensures heeds { K.heeds listener.new ≡ K.heeds listener.old }
     ensures dials { K.dialled_to listener.new ≡ K.dialled_to listener.old }
+    ensures stays { Stays D.is_at surveyor.old surveyor.new }
 {
     for _turn in 0..turns {
         accept_once(alloc, page, clock, surveyor, listener);

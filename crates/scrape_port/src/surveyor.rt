@@ -1,6 +1,6 @@
 //! Who surveys a server.
 ghost use Rattle.std.specs.Prelude.{List};
-ghost use Rattle.scrape_port.specs.Pages.{Goes};
+ghost use Rattle.scrape_port.specs.Pages.{Goes, Stays};
 ghost use Rattle.survey_figures.specs.declared.surveyed.Surveyed.{Surveyed as SurveyedSo};
 
 use survey_figures::Surveyed;
@@ -12,11 +12,16 @@ pub enum Unsurveyed {
     NoMemory,
 }
 
-/// Surveys a server. It stands for the list of its surveys.
+/// Surveys a server. It stands for the list of its surveys, and stands somewhere, as a desk at a lock: no call moves it.
 pub trait Surveyor {
+    ghost Site: { Type 0 };
+
+    ghost is_at: { Self → Self.Site → Type 0 };
+
     ghost surveys: { Self → List SurveyedSo };
 
     /// One survey more, or none.
     fn survey(&mut self) -> Result<Surveyed, Unsurveyed>
-        ensures { Goes (surveys self.old) (surveys self.new) result };
+        ensures goes { Goes (surveys self.old) (surveys self.new) result }
+        ensures stays { Stays Self.is_at self.old self.new };
 }

@@ -85,6 +85,10 @@ fn one_element(alloc: Global) -> Result<Surveyed, NoMemory> {
 }
 
 impl Surveyor for Surveys {
+    ghost Site = { Unit {0} };
+
+    ghost is_at = { λ _ _. Unit {0} };
+
     ghost surveys = { λ s. s.made.items };
 
     fn survey(&mut self) -> Result<Surveyed, Unsurveyed> {
