@@ -19,6 +19,8 @@ use Rattle.cost_cache.specs.contracts.cache.Cache as Cache
 use Rattle.dom_edge.specs.declared.sink.Sink.{Ghosts as SinkGhosts}
 use Rattle.plant_record.specs.contracts.script.Script as Script
 use Rattle.plant_text.specs.contracts.network.Network as Network
+use Rattle.scrape_port.specs.contracts.page.Page as Page
+use Rattle.scrape_port.specs.contracts.seconds.Seconds as Seconds
 use Rattle.ted_watch.specs.contracts.board.Board as Board
 use Rattle.ted_watch.specs.contracts.board.Entry as Entry
 use Rattle.ted_watch.specs.contracts.watch.Publisher as Publisher
@@ -38,6 +40,12 @@ cache_send = search (key_send, key_sync, kept_send, HashMap-send, nodes.the_send
 
 pub network_send : IsSend (Network.the_field).row
 network_send = search (sendable, crosses) depth 60 fits 30000
+
+pub page_send : IsSend (Page.the_field).row
+page_send = search (sendable, crosses) depth 60 fits 30000
+
+pub seconds_send : (R : RattleType) → IsSend R → IsSend (Seconds.the_field R).row
+seconds_send R r = search (sendable, crosses) depth 60 fits 30000
 
 board_send : IsSend Board.the_row
 board_send = search (seen.the_send, sendable, crosses) depth 60 fits 30000

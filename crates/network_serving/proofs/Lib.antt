@@ -3,6 +3,7 @@ mod Causes
 mod Loads
 mod Runs
 mod Opening
+mod Scrapes
 mod Repeats
 mod Starts
 mod WatchTasks

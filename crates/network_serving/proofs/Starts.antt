@@ -20,6 +20,7 @@ use Rattle.network_serving.specs.Ends.{Ends, IsServed, RoseBy, World}
 use Rattle.network_serving.specs.Files.{IsLoadEnd, IsNamedEnd}
 use Rattle.network_serving.specs.Ports.{AreApart, ports_of, watch_ports}
 use Rattle.network_serving.specs.Records.{IsNoRecord}
+use Rattle.network_serving.specs.Scrapes.{IsUnopened, scrape_bases, scrape_duties}
 use Rattle.network_serving.specs.Starting.{Called, IsClosed, IsPlanEnd, IsStartEnd, IsUnlistened, IsUnstarted, called, peer_ports}
 use Rattle.network_serving.specs.declared.served.Served.{Served}
 use Rattle.network_serving.specs.declared.served.Served.TheVariants as served
@@ -128,9 +129,12 @@ want_start ports x faults s is = subst (IsStartEnd ports x faults) (sym is) tt
 
 -- ---- desks
 
--- behind the first tasks and a record there are still two desks: that of the operator, and that from which it is split
-pub still_two : (all first mid last : ℕ) → all ≡ first + 3 → mid + first ≡ all → mid ≤ last + 1 → 1 < last
+-- behind the first tasks and a record there are still three desks: that of the operator, that of the port of counts, and that from which they are split
+pub still_two : (all first mid last : ℕ) → all ≡ first + 4 → mid + first ≡ all → mid ≤ last + 1 → 1 < last
 still_two all first mid last are left less = omega (arith, are, left, less)
+
+pub two_left : (all first mid last end : ℕ) → all ≡ first + 4 → mid + first ≡ all → mid ≤ last + 1 → end + 1 ≡ last → 1 < end
+two_left all first mid last end are left less one = omega (arith, are, left, less, one)
 
 -- ---- duties
 
@@ -165,7 +169,7 @@ no_other_end files at None counts failed_at s want none is = want is
 no_other_end files at (Some name) counts failed_at s want none is = none name is
 
 module _ (w : World) (name : List ℕ) where
-  pub all_served : (made : ℕ) (n : NetworkParts) (x : Server) → HasNetwork w.files name n → AreApart n → IsReady w.files n x → w.started.1 ≡ w.started.0 ++ (duties_of n ++ record_duties w.recorded) → w.bases.1 ≡ w.bases.0 ++ (bases_of n x ++ record_bases w.recorded x.desk) → RoseBy made w.readings → (s : Stand) → w.told ≡ Some s → IsAtLock x.desk s → TellsTime made (desked_of x.desk) (desked_of s) w.last.0 w.last.1 → IsServed w name made
+  pub all_served : (made : ℕ) (n : NetworkParts) (x : Server) → HasNetwork w.files name n → AreApart n → IsReady w.files n x → w.started.1 ≡ w.started.0 ++ (duties_of n ++ record_duties w.recorded ++ scrape_duties w.scraped) → w.bases.1 ≡ w.bases.0 ++ (bases_of n x ++ record_bases w.recorded x.desk ++ scrape_bases n w.recorded x.desk w.scraped) → RoseBy made w.readings → (s : Stand) → w.told ≡ Some s → IsAtLock x.desk s → TellsTime made (desked_of x.desk) (desked_of s) w.last.0 w.last.1 → IsServed w name made
   all_served made n x has apart ready duties behind read s by at tells = record { network = n; has = has; apart = apart; duties = duties; server = x; ready = ready; runs = λ s at given. is_run w.files n x ready s at given; behind = behind; read = read; told = s; by = by; at = at; tells = tells }
 
 module _ (w : World) (Unrecorded : Type 0) (name : List ℕ) (turns : ℕ) where
@@ -207,7 +211,7 @@ module _ (w : World) (Unrecorded : Type 0) (name : List ℕ) (turns : ℕ) where
       go false more = let least : turns ≤ made = ltb-false made turns more in let all : made ≡ turns = omega (arith, within, least) in subst (λ (k : ℕ). IsServed w name k) all is
 
   starts : (n : NetworkParts) (s : Served) → HasNetwork w.files name n → IsStartEnd (ports_of n) (called w.port_calls w.port_faults w.failed_port) w.spawner_faults s → Ends w Unrecorded name turns s
-  starts n (served.NoPort port) has is = record { network = n; has = has; place = is.place; at_place = is.at_place; called = is.calls; failed = is.failed; at_port = is.at_port }
+  starts n (served.NoPort port) has is = inl (record { network = n; has = has; place = is.place; at_place = is.at_place; called = is.calls; failed = is.failed; at_port = is.at_port })
   starts n served.NoThread has is = is
   starts n served.NoMemory has is = tt
   starts n served.Turns has is = absurd is
@@ -231,3 +235,27 @@ module _ (w : World) (Unrecorded : Type 0) (name : List ℕ) (turns : ℕ) where
   pub start_ends : (n : NetworkParts) (s : Served) → HasNetwork w.files name n → IsNoRecord Unrecorded s ⊎ IsStartEnd (ports_of n) (called w.port_calls w.port_faults w.failed_port) w.spawner_faults s → Ends w Unrecorded name turns s
   start_ends n s has (inl is) = records s is
   start_ends n s has (inr is) = starts n s has is
+
+  -- the port of counts can't be had
+  pub unopened_ends : (s : Served) → IsUnopened w.scraped w.scrape_faults w.scrape_failed s → Ends w Unrecorded name turns s
+  unopened_ends (served.NoPort port) is = inr is
+  unopened_ends served.NoThread is = absurd is
+  unopened_ends served.NoMemory is = absurd is
+  unopened_ends served.Turns is = absurd is
+  unopened_ends served.Stopped is = absurd is
+  unopened_ends (served.NoRecord place) is = absurd is
+  unopened_ends served.ReadFault is = absurd is
+  unopened_ends (served.TooLarge file) is = absurd is
+  unopened_ends (served.BadNetwork file line fault) is = absurd is
+
+  -- its task can't be started, behind all others
+  pub unstarted_ends : (threads : ℕ) (s : Served) → w.spawner_faults.0 ≤ threads → IsUnstarted (threads, w.spawner_faults.1) s → Ends w Unrecorded name turns s
+  unstarted_ends threads served.NoThread less is = rose_from w.spawner_faults.0 threads w.spawner_faults.1 less is
+  unstarted_ends threads served.NoMemory less is = tt
+  unstarted_ends threads served.Turns less is = absurd is
+  unstarted_ends threads served.Stopped less is = absurd is
+  unstarted_ends threads (served.NoRecord place) less is = absurd is
+  unstarted_ends threads (served.NoPort port) less is = absurd is
+  unstarted_ends threads served.ReadFault less is = absurd is
+  unstarted_ends threads (served.TooLarge file) less is = absurd is
+  unstarted_ends threads (served.BadNetwork file line fault) less is = absurd is

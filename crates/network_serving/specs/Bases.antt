@@ -17,16 +17,19 @@ use Rattle.network_serving.specs.declared.tasks.Task.TheVariants as task
 use Rattle.network_serving.specs.Duties.{first_duties, record_duties, watch_duties}
 use Rattle.network_serving.specs.Loaded.{IsLoaded}
 
--- What a task stands on: a desk at a lock; a desk, settings, and what was shown, on which list; or what a watcher knows, of which list.
+-- What a task stands on: a desk at a lock; a desk, settings, and what was shown, on which list; what a watcher knows, of which list; or a
+-- desk, settings, and whether there is a record.
 pub data Base : Type 0 where
   Desk : Stand → Base
   Operator : Stand → NetworkParts → List Shown → Book → Base
   Watcher : List Shown → Book → Base
+  Counts : Stand → NetworkParts → Bool → Base
 
 abbrev pub base_of : Footing → Base
 base_of (footing.Desk s) = Desk (stood s)
 base_of (footing.Operator s network told) = Operator (stood s) network.value (carried told) (list_told told)
 base_of (footing.Watcher w) = Watcher (known w.value) (list_at w.value)
+base_of (footing.Counts s page) = Counts (stood s) page.value.parts page.value.has_record
 
 module _ {K F I O R : Type 0} where
   abbrev pub base_in : Task K F I O R → Base
@@ -35,6 +38,7 @@ module _ {K F I O R : Type 0} where
   base_in (task.Work index cache bench) = Desk (desk_of bench)
   base_in (task.Operate desk files network publisher input out) = Operator (stand_of desk) network (published publisher) (list_of publisher)
   base_in (task.Watch rt index watcher listener) = Watcher (known watcher) (list_at watcher)
+  base_in (task.Scrape clock seat page listener) = Counts (stand_of seat.desk) page.parts page.has_record
 
 -- ---- a server
 

@@ -58,6 +58,6 @@ record_duties false = []
 abbrev pub first_count : NetworkParts → ℕ
 first_count n = length n.peers + n.workers + 1
 
--- the desks of all tasks and of a record, and that from which they are split
+-- the desks of all tasks, of a record and of the port of counts, and that from which they are split
 abbrev pub desks_of : NetworkParts → ℕ
-desks_of n = first_count n + 3
+desks_of n = first_count n + 4

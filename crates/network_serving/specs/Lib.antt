@@ -12,6 +12,7 @@ pub mod Watches
 pub mod Working
 pub mod Running
 pub mod Records
+pub mod Scrapes
 pub mod SpawnerStates
 pub mod Spawners
 -- inner

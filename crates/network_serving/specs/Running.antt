@@ -4,6 +4,9 @@ use Rattle.dom_base.specs.declared.addr.Addr.{Addr}
 use Rattle.dom_edge.specs.Heeding.{Sides}
 use Rattle.dom_edge.specs.Stores.{Files}
 use Rattle.ted_watch.specs.Watch.{known, published}
+use Rattle.scrape_port.specs.Hearing.{Clocked}
+use Rattle.scrape_port.specs.Ports.{Attended, ScrapesPort, attended}
+use Rattle.scrape_port.specs.Scraping.{scraper}
 use Rattle.server_loops.specs.Serving.{CarriesGuided, Heard, ServesPort, heard}
 use Rattle.server_loops.specs.declared.port.Ran.{Ran}
 use Rattle.server_loops.specs.declared.port.Ran.TheVariants as ran
@@ -20,7 +23,8 @@ use Rattle.network_serving.specs.declared.running.TaskEnd.{TaskEnd}
 use Rattle.network_serving.specs.declared.running.TaskEnd.TheVariants as end
 use Rattle.network_serving.specs.declared.tasks.Task.{Task}
 use Rattle.network_serving.specs.declared.tasks.Task.TheVariants as task
-use Rattle.network_serving.specs.Bases.{Base, Desk, Operator, Watcher, base_in}
+use Rattle.network_serving.specs.Bases.{Base, Counts, Desk, Operator, Watcher, base_in}
+use Rattle.network_serving.specs.Scrapes.{surveys_at}
 use Rattle.network_serving.specs.Watching.{WatchesPort}
 use Rattle.network_serving.specs.Working.{WorksOn}
 
@@ -57,6 +61,9 @@ IsSameListener x new old = (x.opened_at new ≡ x.opened_at old) × (x.heeds new
 abbrev pub heard_of : {K F I O : Type 0} → Outside K F I O → K → Heard
 heard_of x l = heard (x.accept_faults l) (x.quiets l) (x.handed l)
 
+abbrev pub attended_of : {K F I O : Type 0} → Outside K F I O → K → Attended
+attended_of x l = attended (x.accept_faults l) (x.quiets l) (x.handed l)
+
 module _ {K F I O R : Type 0} (x : Outside K F I O) (turns : ℕ) where
   -- The first of these tasks became the second, and ended so.
   abbrev pub RunsTask : TaskEnd → Task K F I O R → Task K F I O R → Type 0
@@ -80,6 +87,9 @@ module _ {K F I O R : Type 0} (x : Outside K F I O) (turns : ℕ) where
       × OperatedAsShown e (stand_of desk')
   RunsTask end.Watching (task.Watch rt index watcher listener) (task.Watch rt' index' watcher' listener') =
       (index' ≡ index) × IsSameListener x listener' listener × WatchesPort turns (known watcher) (known watcher') (heard_of x listener) (heard_of x listener')
+  RunsTask end.Scraping (task.Scrape clock seat page listener) (task.Scrape clock' seat' page' listener') =
+      IsSameListener x listener' listener
+      × ((c : Clocked) × (d : Clocked) × ScrapesPort turns (scraper page c (surveys_at (stand_of seat.desk))) (scraper page' d (surveys_at (stand_of seat'.desk))) (attended_of x listener) (attended_of x listener'))
   RunsTask e old new = ⊥
 
 -- A task stands where it stood: its desk is at the same lock, with the same settings, and what is published is on the same list.
@@ -87,6 +97,7 @@ abbrev pub StaysOn : Base → Base → Type 0
 StaysOn (Desk s) (Desk s') = IsStill s s'
 StaysOn (Operator s network shown list) (Operator s' network' shown' list') = IsStill s s' × (network' ≡ network) × (list' ≡ list)
 StaysOn (Watcher known list) (Watcher known' list') = list' ≡ list
+StaysOn (Counts s n recorded) (Counts s' n' recorded') = IsStill s s' × (n' ≡ n) × (recorded' ≡ recorded)
 StaysOn old new = ⊥
 
 -- The first of these tasks became the second in a run of all turns that a number of 64 bits counts, and stands where it stood. So where

@@ -20,4 +20,6 @@ pub enum Duty {
     Watch(u16, u32),
     /// It writes a record of what is done.
     Record,
+    /// It answers machines that ask for counts, who come in at this port.
+    Scrape(u16),
 }

@@ -4,6 +4,7 @@ ghost use Rattle.network_serving.specs.Bases.{base_in, base_of};
 
 use crate::tasks::Task;
 use plant_text::Network;
+use scrape_port::Page;
 use std::snapshot::Snapshot;
 use std::sync::Wait;
 use std::time::Clock;
@@ -19,6 +20,8 @@ pub enum Footing {
     Operator(Standing, Snapshot<Network>, Told),
     /// What the watcher knows.
     Watcher(Snapshot<Watcher>),
+    /// Where the desk stands at which surveys are made, and what is told of them.
+    Counts(Standing, Snapshot<Page>),
 }
 
 impl<K, F, I, O, R: Wait + Clock + Drop> Task<K, F, I, O, R> {
@@ -53,6 +56,12 @@ impl<K, F, I, O, R: Wait + Clock + Drop> Task<K, F, I, O, R> {
                 watcher,
                 listener: _,
             } => Footing::Watcher(Snapshot::of(watcher)),
+            Task::Scrape {
+                clock: _,
+                seat,
+                page,
+                listener: _,
+            } => Footing::Counts(seat.desk.standing(), Snapshot::of(page)),
         }
     }
 }

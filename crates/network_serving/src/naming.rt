@@ -35,6 +35,12 @@ impl<K: Listener, F, I, O, R: Wait + Clock + Drop> Task<K, F, I, O, R> {
                 watcher: _,
                 listener,
             } => Ok(Duty::Watch(listener.port(), *index)),
+            Task::Scrape {
+                clock: _,
+                seat: _,
+                page: _,
+                listener,
+            } => Ok(Duty::Scrape(listener.port())),
         }
     }
 }

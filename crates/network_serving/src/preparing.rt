@@ -7,6 +7,7 @@ ghost use Rattle.plant_text.specs.Settings.{is_element};
 ghost use Rattle.turn_desk.specs.Desks.{shares_at, stand_of};
 ghost use Rattle.turn_desk.specs.Seats.{seat_of};
 ghost use Rattle.network_files.specs.Settings.{HasNetwork};
+ghost use Rattle.scrape_port.specs.Pages.{blank_page};
 ghost use Rattle.server_loops.specs.Operating.{AreOfElements};
 ghost use Rattle.ted_watch.specs.Watch.{list_of, published};
 ghost use Rattle.network_serving.specs.Bases.{IsReady, server};
@@ -27,6 +28,7 @@ use dom_edge::Store;
 use kept_plant::{Tape, tell_load};
 use plant_network::Plant;
 use plant_text::{ElementRow, Network};
+use scrape_port::Page;
 use std::alloc::Global;
 use std::sync::Wait;
 use std::time::Clock;
@@ -45,8 +47,8 @@ pub(crate) struct Prepared<R: Wait + Clock + Drop> {
     pub settings: Bytes,
 }
 
-// How many desks a network has: those of the peers' ports, of the workers, of the carrier, of the operator and of a record, and that from
-// which they are split. A lock has fewer than 2^32.
+// How many desks a network has: those of the peers' ports, of the workers, of the carrier, of the operator, of a record and of the port of
+// counts, and that from which they are split. A lock has fewer than 2^32.
 fn desks_of(network: &Network) -> Result<u32, NoMemory>
     ensures ok { IfOk result (λ desks. desks ≡ desks_of network.now) }
     ensures many { OnErr result (2 ^ 32 ≤ desks_of network.now) }
@@ -55,7 +57,7 @@ fn desks_of(network: &Network) -> Result<u32, NoMemory>
     let Some(tasks) = (parts.peers.len() as u32).checked_add(parts.workers) else {
         return Err(NoMemory);
     };
-    let Some(desks) = tasks.checked_add(4) else {
+    let Some(desks) = tasks.checked_add(5) else {
         return Err(NoMemory);
     };
     Ok(desks)
@@ -129,7 +131,7 @@ fn open_loaded<T: Store, R: Wait + Clock + Drop>(
 }
 
 /// Loads the settings and the topologies that they name, and shows these. Then it opens a lock round the network. The watchers know
-/// nothing yet. Where a record is asked for, the loads stand on the tape that the lock keeps.
+/// nothing yet. Where a record is asked for, the loads stand on the tape that the lock keeps. The page is of what is told of counts.
 #[tactic(auto, using(crate::proofs::Causes::settings_end, crate::proofs::Causes::port_end, crate::proofs::Causes::open_end, crate::proofs::Causes::want_end, crate::proofs::Loads::all_ready))]
 pub(crate) fn prepare<T: Store, R: Wait + Clock + Copy + Drop>(
     rt: R,
@@ -137,30 +139,33 @@ pub(crate) fn prepare<T: Store, R: Wait + Clock + Copy + Drop>(
     name: &str,
     store: &mut T,
     is_recorded: bool,
-) -> Result<Prepared<R>, Served>
-    ensures ok { IfOk result (λ p. HasNetwork (T.files store.old) name.now p.network × AreApart p.network × AreOfElements p.network (published p.publisher)) }
-    ensures ready { IfOk result (λ p. IsReady (T.files store.old) p.network (server (stand_of p.desk) (published p.publisher) (list_of p.publisher))) }
-    ensures unused { IfOk result (λ p. AreUnused (list_of p.publisher) p.watchers) }
-    ensures seats { IfOk result (λ p. shares_at p.desk ≡ desks_of p.network) }
-    ensures recorded { IfOk result (λ p. (p.recorded ≡ p.network) × HasFile (T.files store.old) name.now p.settings) }
-    ensures taped { IfOk result (λ p. IsTapedSo is_recorded p.network (seat_of p.desk)) }
+) -> Result<(Prepared<R>, Page), Served>
+    ensures ok { IfOk result (λ r. HasNetwork (T.files store.old) name.now r.0.network × AreApart r.0.network × AreOfElements r.0.network (published r.0.publisher)) }
+    ensures ready { IfOk result (λ r. IsReady (T.files store.old) r.0.network (server (stand_of r.0.desk) (published r.0.publisher) (list_of r.0.publisher))) }
+    ensures unused { IfOk result (λ r. AreUnused (list_of r.0.publisher) r.0.watchers) }
+    ensures seats { IfOk result (λ r. shares_at r.0.desk ≡ desks_of r.0.network) }
+    ensures recorded { IfOk result (λ r. (r.0.recorded ≡ r.0.network) × HasFile (T.files store.old) name.now r.0.settings) }
+    ensures taped { IfOk result (λ r. IsTapedSo is_recorded r.0.network (seat_of r.0.desk)) }
+    ensures page { IfOk result (λ r. r.1 ≡ blank_page r.0.network is_recorded) }
     ensures err { IfErr result (IsLoadEnd (T.files store.old) name.now (T.faults store.old, T.faults store.new) (T.failed_at store.new)) }
 {
     let Settings {
         network,
         own,
         recorded,
+        told,
         octets,
     } = load_settings(alloc, store, name)?;
     check_ports(alloc, name, &own)?;
     let (mut publisher, watchers) = open_watch(rt, alloc, WATCHERS)?;
     let desk = open_loaded(rt, alloc, store, network, &own, &mut publisher, is_recorded)?;
-    Ok(Prepared {
+    let prepared = Prepared {
         network: own,
         desk,
         publisher,
         watchers,
         recorded,
         settings: octets,
-    })
+    };
+    Ok((prepared, Page::new(told, is_recorded)))
 }

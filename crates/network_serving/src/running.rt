@@ -5,6 +5,7 @@ use crate::tasks::Task;
 use crate::watching::watch_port;
 use crate::working::work_on;
 use dom_edge::{Listener, Sink, Source, Store};
+use scrape_port::serve_scrapes;
 use server_loops::{Operated, Ran, Worked, carry_guided, operate, serve_port};
 use std::alloc::Global;
 use std::sync::Wait;
@@ -19,6 +20,8 @@ pub enum TaskEnd {
     Operated(Operated),
     /// Watchers were answered in all turns.
     Watching,
+    /// Counts were told in all turns.
+    Scraping,
 }
 
 impl<K: Listener, F: Store, I: Source, O: Sink, R: Wait + Clock + Drop> Task<K, F, I, O, R> {
@@ -66,6 +69,15 @@ impl<K: Listener, F: Store, I: Source, O: Sink, R: Wait + Clock + Drop> Task<K, 
             } => {
                 watch_port(rt, alloc, watcher, listener, turns);
                 TaskEnd::Watching
+            }
+            Task::Scrape {
+                clock,
+                seat,
+                page,
+                listener,
+            } => {
+                serve_scrapes(alloc, page, clock, seat, listener, turns);
+                TaskEnd::Scraping
             }
         }
     }

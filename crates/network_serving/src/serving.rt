@@ -1,5 +1,5 @@
 //! A network is served.
-ghost use Rattle.std.specs.Prelude.{◌≡◌, ◌⊎◌, ◌++◌, IfErr, IfOk, OnOk, nat_lt, if◌then◌else◌};
+ghost use Rattle.std.specs.Prelude.{◌≡◌, ◌⊎◌, ◌++◌, ◌<◌, ◌≤◌, IfErr, IfOk, OnOk, nat_lt, if◌then◌else◌};
 ghost use Rattle.std.specs.Option.{option_map};
 ghost use Rattle.server_loops.specs.Operating.{AreOfElements};
 ghost use Rattle.ted_watch.specs.Watch.{list_of, published};
@@ -8,6 +8,7 @@ ghost use Rattle.network_serving.specs.Bases.{bases_of, record_bases, server};
 ghost use Rattle.network_serving.specs.Spawners.{bases, faults_of, started};
 ghost use Rattle.network_serving.specs.Duties.{desks_of, duties_of, record_duties};
 ghost use Rattle.network_serving.specs.Records.{HasFault, IsNoRecord, faults_in, is_asked};
+ghost use Rattle.network_serving.specs.Scrapes.{port_asked, port_failed, port_faults};
 ghost use Rattle.network_serving.specs.declared.served.Served.TheVariants.{Stopped, Turns};
 ghost use Rattle.network_serving.specs.Ends.{Ends};
 ghost use Rattle.network_serving.specs.Ports.{ports_of};
@@ -18,6 +19,7 @@ use crate::planning::{desk_beside, plan_tasks};
 use crate::preparing::{Prepared, prepare};
 use crate::recording::{Blames, Recording};
 use crate::records::{plan_record, start_record};
+use crate::scrapes::{Scraping, open_scrapes, place_of, start_scrapes};
 use crate::served::Served;
 use crate::spawner::Spawner;
 use crate::starting::{start, start_all};
@@ -68,6 +70,8 @@ where
     ensures ok { OnOk result (started spawner.new ≡ started spawner.old ++ (duties_of prepared.network ++ record_duties (is_asked recording.old))) }
     ensures behind { OnOk result (bases spawner.new ≡ bases spawner.old ++ (bases_of prepared.network (server (stand_of prepared.desk) (published prepared.publisher) (list_of prepared.publisher)) ++ record_bases (is_asked recording.old) (stand_of prepared.desk))) }
     ensures stand { IfOk result (λ desk. stand_of desk ≡ stand_of prepared.desk) }
+    ensures seat { IfOk result (λ desk. 1 < shares_at desk) }
+    ensures later { OnOk result (faults_of spawner.old ≤ faults_of spawner.new) }
     ensures err { IfErr result (λ why. IsNoRecord (HasFault G.File.faults (faults_in G.faults recording.old) (faults_in G.faults recording.new)) why ⊎ IsStartEnd (ports_of prepared.network) (called (Q.calls ports.old, Q.calls ports.new) (Q.faults ports.old, Q.faults ports.new) (Q.failed_at ports.new)) (faults_of spawner.old, faults_of spawner.new) why) }
 {
     let Prepared {
@@ -123,12 +127,14 @@ fn end_of<L: Sink>(log: &mut L, made: u64, turns: u64) -> Served
 /// task for each peer, one that carries messages, one for each worker, one that does what an operator's lines say, and eight that
 /// answer watchers. Then it tells the time, in so many turns, or until an operator's line says that serving is to end.
 ///
+/// Where a port of counts is asked for, it listens there before anything is started, and the last task that it starts answers machines.
+///
 /// Where a record is asked for, it begins before the first task is started, and a task of its own writes it: all that is done, from the
 /// first load on. A record that can't be begun keeps the server from starting; one that ends later does not end the server.
 ///
 /// `told` gets the desk by which it told the time. `files`, `input` and `out` are the operator's. What is said on `log` is a line for each task that was started, and `pce: ready`;
 /// `at` is what it calls the addresses at which it listens.
-#[tactic(auto, using(crate::proofs::Starts::load_ends, crate::proofs::Starts::start_ends, crate::proofs::Loads::ready_is_fresh))]
+#[tactic(auto, using(crate::proofs::Starts::load_ends, crate::proofs::Starts::start_ends, crate::proofs::Starts::unopened_ends, crate::proofs::Starts::unstarted_ends, crate::proofs::Loads::ready_is_fresh))]
 pub fn serve<T, Q, S, C, F, I, O, R, L, G, M, E>(
     rt: R,
     alloc: Global,
@@ -145,10 +151,11 @@ pub fn serve<T, Q, S, C, F, I, O, R, L, G, M, E>(
     turns: u64,
     told: &mut Option<TurnDesk<R>>,
     recording: &mut Option<Recording<G, M, E>>,
+    scraping: &mut Option<Scraping<Q>>,
 ) -> Served
 where
     T: Store,
-    Q: Ports,
+    Q: Ports + Drop,
     Q::Port: Send + Drop + 'static,
     <Q::Port as Listener>::Link: Send + 'static,
     S: Threads,
@@ -162,16 +169,27 @@ where
     G::File: Send + 'static,
     M: Calendar + Send + Drop + 'static,
     E: Sink + Send + Drop + 'static,
-    ensures ends { Ends (record { files = T.files store.old; store_faults = (T.faults store.old, T.faults store.new); failed_at = T.failed_at store.new; port_calls = (Q.calls ports.old, Q.calls ports.new); port_faults = (Q.faults ports.old, Q.faults ports.new); failed_port = Q.failed_at ports.new; started = (started spawner.old, started spawner.new); bases = (bases spawner.old, bases spawner.new); spawner_faults = (faults_of spawner.old, faults_of spawner.new); readings = (C.readings clock.old, C.readings clock.new); last = (C.last clock.old, C.last clock.new); told = option_map stand_of told.new; recorded = is_asked recording.old }) (HasFault G.File.faults (faults_in G.faults recording.old) (faults_in G.faults recording.new)) name.now turns result }
+    ensures ends { Ends (record { files = T.files store.old; store_faults = (T.faults store.old, T.faults store.new); failed_at = T.failed_at store.new; port_calls = (Q.calls ports.old, Q.calls ports.new); port_faults = (Q.faults ports.old, Q.faults ports.new); failed_port = Q.failed_at ports.new; started = (started spawner.old, started spawner.new); bases = (bases spawner.old, bases spawner.new); spawner_faults = (faults_of spawner.old, faults_of spawner.new); readings = (C.readings clock.old, C.readings clock.new); last = (C.last clock.old, C.last clock.new); told = option_map stand_of told.new; recorded = is_asked recording.old; scraped = port_asked scraping.old; scrape_faults = (port_faults Q.faults scraping.old, port_faults Q.faults scraping.new); scrape_failed = port_failed Q.failed_at scraping.new }) (HasFault G.File.faults (faults_in G.faults recording.old) (faults_in G.faults recording.new)) name.now turns result }
 {
-    let prepared = match prepare(rt, alloc, name, store, recording.is_some()) {
+    let (prepared, page) = match prepare(rt, alloc, name, store, recording.is_some()) {
         Ok(prepared) => prepared,
         Err(why) => return why,
     };
-    match start_network(
+    let listener = match open_scrapes(scraping) {
+        Ok(listener) => listener,
+        Err(why) => return why,
+    };
+    let mut desk = match start_network(
         rt, alloc, prepared, ports, spawner, files, input, out, log, at, recording,
     ) {
-        Ok(mut desk) => {
+        Ok(desk) => desk,
+        Err(why) => return why,
+    };
+    let place = place_of(scraping);
+    match start_scrapes::<S, Q::Port, F, I, O, R, L>(
+        rt, alloc, &mut desk, listener, page, spawner, log, place,
+    ) {
+        Ok(()) => {
             tell_ready(log);
             let made = tick_on(&mut desk, clock, turns);
             *told = Some(desk);

@@ -66,12 +66,13 @@ fn network_in(alloc: Global, name: &str, bytes: &[u8]) -> Result<Network, Served
 }
 
 /// The settings in a file, as often as they are needed, and the octets of the file: a network takes them for itself, an operator reads
-/// lines against them, and a record is written by them.
+/// lines against them, a record is written by them, and counts are told by them.
 #[derive(Drop)]
 pub(crate) struct Settings {
     pub network: Network,
     pub own: Network,
     pub recorded: Network,
+    pub told: Network,
     pub octets: Bytes,
 }
 
@@ -83,7 +84,7 @@ pub(crate) fn load_settings<T: Store>(
     name: &str,
 ) -> Result<Settings, Served>
     ensures ok { IfOk result (λ s. HasNetwork (T.files store.old) name.now s.own) }
-    ensures same { IfOk result (λ s. (s.network ≡ s.own) × (s.recorded ≡ s.own)) }
+    ensures same { IfOk result (λ s. (s.network ≡ s.own) × (s.recorded ≡ s.own) × (s.told ≡ s.own)) }
     ensures octets { IfOk result (λ s. HasFile (T.files store.old) name.now s.octets) }
     ensures err { IfErr result (IsFileEnd (T.files store.old) name.now settings_max IsSettingsFault (T.faults store.old, T.faults store.new) (T.failed_at store.new)) }
     ensures files { T.files store.new ≡ T.files store.old }
@@ -93,10 +94,12 @@ pub(crate) fn load_settings<T: Store>(
     let network = network_in(alloc, name, bytes.as_slice())?;
     let own = network_in(alloc, name, bytes.as_slice())?;
     let recorded = network_in(alloc, name, bytes.as_slice())?;
+    let told = network_in(alloc, name, bytes.as_slice())?;
     Ok(Settings {
         network,
         own,
         recorded,
+        told,
         octets: bytes,
     })
 }

@@ -1,7 +1,9 @@
 //! The tasks of a program that serves a network.
+use crate::surveys::SurveySeat;
 use cost_cache::Cache;
 use dom_base::{As, List};
 use plant_text::{Comes, Network};
+use scrape_port::{Page, Seconds};
 use std::sync::Wait;
 use std::time::Clock;
 use ted_watch::{Publisher, Watcher};
@@ -43,6 +45,13 @@ pub enum Task<K, F, I, O, R: Wait + Clock + Drop> {
         rt: R,
         index: u32,
         watcher: Watcher,
+        listener: K,
+    },
+    /// Answers machines that ask for counts.
+    Scrape {
+        clock: Seconds<R>,
+        seat: SurveySeat<R>,
+        page: Page,
         listener: K,
     },
 }

@@ -87,6 +87,7 @@ fn write_duty(
             into.extend_from_slice(b"pce: writes a record")?;
             Ok(())
         }
+        Duty::Scrape(port) => write_listens(at, *port, b"metrics", into),
     }
 }
 

@@ -34,6 +34,10 @@ pub record PageState : Type 0 where
 abbrev pub blank_page : NetworkParts → Bool → PageState
 blank_page n has_record = record { parts = n; has_record = has_record; last = None }
 
+-- a page of the same settings, which tells of a record where that one does
+abbrev pub IsSamePage : PageState → PageState → Type 0
+IsSamePage old new = (new.parts ≡ old.parts) × (new.has_record ≡ old.has_record)
+
 -- the answer with the counts of this survey
 abbrev pub page_text : PageState → Surveyed → List ℕ
 page_text p s = counts_text (metrics_text p.parts s p.has_record)

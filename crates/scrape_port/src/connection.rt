@@ -3,7 +3,7 @@ ghost use Rattle.std.specs.Prelude.{◌≡◌, ◌≢◌, Ok, Err};
 ghost use Rattle.dom_edge.specs.Heeding.{sides};
 ghost use Rattle.scrape_http.specs.declared.asking.Asked.TheVariants.{More};
 ghost use Rattle.scrape_port.specs.Hearing.{clocked};
-ghost use Rattle.scrape_port.specs.Pages.{Stays};
+ghost use Rattle.scrape_port.specs.Pages.{IsSamePage, Stays};
 ghost use Rattle.scrape_port.specs.Scraping.{Answers, Scrapes, Tells, scraper};
 
 use crate::answering::{drop_rest, refuse, write_answer};
@@ -26,6 +26,7 @@ fn tell<L: Wire, C: Clock, D: Surveyor>(
     ensures tells { Tells result (scraper page.old (clocked (C.last clock.old) (C.readings clock.old)) (D.surveys surveyor.old)) (scraper page.new (clocked (C.last clock.new) (C.readings clock.new)) (D.surveys surveyor.new)) (L.writing link.old) (L.writing link.new) }
     ensures reading { L.reading link.new ≡ L.reading link.old }
     ensures stays { Stays D.is_at surveyor.old surveyor.new }
+    ensures settings { IsSamePage page.old page.new }
 {
     let now = clock.now();
     match page.renew(alloc, now, surveyor) {
@@ -47,6 +48,7 @@ fn answer<L: Wire, C: Clock, D: Surveyor>(
     ensures answers { Answers (Ok asked) result (scraper page.old (clocked (C.last clock.old) (C.readings clock.old)) (D.surveys surveyor.old)) (scraper page.new (clocked (C.last clock.new) (C.readings clock.new)) (D.surveys surveyor.new)) (L.writing link.old) (L.writing link.new) }
     ensures reading { L.reading link.new ≡ L.reading link.old }
     ensures stays { Stays D.is_at surveyor.old surveyor.new }
+    ensures settings { IsSamePage page.old page.new }
 {
     match asked {
         Asked::Counts => tell(alloc, page, clock, surveyor, link),
@@ -67,6 +69,7 @@ pub fn scrape<L: Wire, C: Clock, D: Surveyor>(
 ) -> Scraped
     ensures scrapes { Scrapes turns result (scraper page.old (clocked (C.last clock.old) (C.readings clock.old)) (D.surveys surveyor.old)) (scraper page.new (clocked (C.last clock.new) (C.readings clock.new)) (D.surveys surveyor.new)) (sides (L.reading link.old) (L.writing link.old)) (sides (L.reading link.new) (L.writing link.new)) }
     ensures stays { Stays D.is_at surveyor.old surveyor.new }
+    ensures settings { IsSamePage page.old page.new }
 {
     match hear(alloc, clock, link, turns) {
         Ok(asked) => {

@@ -1,6 +1,6 @@
 //! What is told of a server, and kept for a while.
 ghost use Rattle.std.specs.Prelude.{◌≡◌, IfOk, None};
-ghost use Rattle.scrape_port.specs.Pages.{Renews, Stays, SurveysAnew, blank_page, is_young, kept_text, page_text};
+ghost use Rattle.scrape_port.specs.Pages.{IsSamePage, Renews, Stays, SurveysAnew, blank_page, is_young, kept_text, page_text};
 
 use crate::OLD_SECONDS;
 use crate::surveyor::{Surveyor, Unsurveyed};
@@ -83,6 +83,7 @@ impl Page {
     ) -> Result<(), Unsurveyed>
         ensures surveys { SurveysAnew now.0 result self.old self.new (D.surveys surveyor.old) (D.surveys surveyor.new) }
         ensures stays { Stays D.is_at surveyor.old surveyor.new }
+        ensures settings { IsSamePage self.old self.new }
     {
         let surveyed = surveyor.survey()?;
         match self.text_of(alloc, &surveyed) {
@@ -103,6 +104,7 @@ impl Page {
     ) -> Result<(), Unsurveyed>
         ensures renews { Renews now.0 result self.old self.new (D.surveys surveyor.old) (D.surveys surveyor.new) }
         ensures stays { Stays D.is_at surveyor.old surveyor.new }
+        ensures settings { IsSamePage self.old self.new }
     {
         if self.is_young(now) {
             Ok(())

@@ -2,7 +2,7 @@
 ghost use Rattle.std.specs.Prelude.{◌≡◌};
 ghost use Rattle.scrape_port.specs.Hearing.{clocked};
 ghost use Rattle.scrape_port.specs.Ports.{IsScrapeTurn, ScrapesPort, attended};
-ghost use Rattle.scrape_port.specs.Pages.{Stays};
+ghost use Rattle.scrape_port.specs.Pages.{IsSamePage, Stays};
 ghost use Rattle.scrape_port.specs.Scraping.{scraper};
 
 use crate::connection::scrape;
@@ -27,6 +27,7 @@ fn accept_once<K: Listener, C: Clock, D: Surveyor>(
     ensures heeds { K.heeds listener.new ≡ K.heeds listener.old }
     ensures dials { K.dialled_to listener.new ≡ K.dialled_to listener.old }
     ensures stays { Stays D.is_at surveyor.old surveyor.new }
+    ensures settings { IsSamePage page.old page.new }
 {
     match listener.accept() {
         Accepted::Link(link) => {
@@ -51,6 +52,7 @@ pub fn serve_scrapes<K: Listener, C: Clock, D: Surveyor>(
     ensures heeds { K.heeds listener.new ≡ K.heeds listener.old }
     ensures dials { K.dialled_to listener.new ≡ K.dialled_to listener.old }
     ensures stays { Stays D.is_at surveyor.old surveyor.new }
+    ensures settings { IsSamePage page.old page.new }
 {
     for _turn in 0..turns {
         accept_once(alloc, page, clock, surveyor, listener);

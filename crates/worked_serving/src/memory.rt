@@ -4,7 +4,7 @@ use dom_edge::{
     MemoryCalendar, MemoryClock, MemoryFolder, MemoryListener, MemoryPorts, MemorySink,
     MemorySource, MemoryStore,
 };
-use network_serving::{Duty, MemorySpawner, Recording, Served, Spawner, serve};
+use network_serving::{Duty, MemorySpawner, Recording, Scraping, Served, Spawner, serve};
 use std::alloc::Global;
 use std::sync::Wait;
 use std::test::Fail;
@@ -119,6 +119,7 @@ fn put_duty(duty: &Duty, into: &mut Vec<u8>) -> Result<(), Fail> {
             put_words(b"watch", &[u64::from(*port), u64::from(*index)], into)
         }
         Duty::Record => put_words(b"record", &[], into),
+        Duty::Scrape(port) => put_words(b"scrape", &[u64::from(*port)], into),
     }
 }
 
@@ -187,11 +188,20 @@ fn recording(alloc: Global, call: u64) -> Result<Asked, Fail> {
     }))
 }
 
+// A port of counts, whose call of `listen` of that number fails.
+fn scraping(alloc: Global, call: u64) -> Result<Option<Scraping<MemoryPorts>>, Fail> {
+    Ok(Some(Scraping {
+        ports: ports(alloc, only(alloc, call)?)?,
+        port: 9189,
+        place: Text::copy_of(alloc, "192.0.2.10")?,
+    }))
+}
+
 fn serve_once<R>(rt: R, alloc: Global, settings: &[u8], port: u64, thread: u64) -> Result<Run, Fail>
 where
     R: Threads + Wait + Clock + Copy + Send + Drop + 'static,
 {
-    serve_asked(rt, alloc, settings, port, thread, None)
+    serve_asked(rt, alloc, settings, port, thread, None, None)
 }
 
 fn serve_asked<R>(
@@ -201,6 +211,7 @@ fn serve_asked<R>(
     port: u64,
     thread: u64,
     asked: Asked,
+    scraping: Option<Scraping<MemoryPorts>>,
 ) -> Result<Run, Fail>
 where
     R: Threads + Wait + Clock + Copy + Send + Drop + 'static,
@@ -209,6 +220,7 @@ where
     let mut log = MemorySink::new(alloc, List::new(alloc));
     let mut told = None;
     let mut asked = asked;
+    let mut scraping = scraping;
     let served = serve(
         rt,
         alloc,
@@ -225,6 +237,7 @@ where
         3,
         &mut told,
         &mut asked,
+        &mut scraping,
     );
     let mut end = Vec::new(alloc);
     put_end(&served, &mut end)?;
@@ -285,11 +298,11 @@ fn a_fault_ends_it(rt: HostRuntime) -> Result<(), Fail> {
 #[test]
 fn a_record_is_started_last(rt: HostRuntime) -> Result<(), Fail> {
     let alloc = rt.alloc();
-    let run = serve_asked(rt, alloc, SETTINGS, NEVER, NEVER, recording(alloc, NEVER)?)?;
+    let run = serve_asked(rt, alloc, SETTINGS, NEVER, NEVER, recording(alloc, NEVER)?, None)?;
     let mut end = ended(b"turns\n", 14, alloc)?;
     end.extend_from_slice(b"record\n")?;
     assert_eq!(rt; run.end, end);
-    let unstarted = serve_asked(rt, alloc, SETTINGS, NEVER, 14, recording(alloc, NEVER)?)?;
+    let unstarted = serve_asked(rt, alloc, SETTINGS, NEVER, 14, recording(alloc, NEVER)?, None)?;
     assert_eq!(rt; unstarted.end, ended(b"no thread\n", 14, alloc)?);
     Ok(())
 }
@@ -306,10 +319,29 @@ const UNRECORDED: [(u64, &[u8]); 4] = [
 fn without_its_record_nothing_is_started(rt: HostRuntime) -> Result<(), Fail> {
     let alloc = rt.alloc();
     for (call, end) in UNRECORDED {
-        let run = serve_asked(rt, alloc, SETTINGS, NEVER, NEVER, recording(alloc, call)?)?;
+        let run = serve_asked(rt, alloc, SETTINGS, NEVER, NEVER, recording(alloc, call)?, None)?;
         assert_eq!(rt; run.end.as_slice(), end);
         assert!(rt; run.log.bytes().is_empty());
     }
+    Ok(())
+}
+
+// What answers machines is started behind all others, and where its port can't be had nothing is.
+#[test]
+fn a_port_of_counts_is_served_last(rt: HostRuntime) -> Result<(), Fail> {
+    let alloc = rt.alloc();
+    let record = recording(alloc, NEVER)?;
+    let run = serve_asked(rt, alloc, SETTINGS, NEVER, NEVER, record, scraping(alloc, NEVER)?)?;
+    let mut end = ended(b"turns\n", 14, alloc)?;
+    end.extend_from_slice(b"record\nscrape 9189\n")?;
+    assert_eq!(rt; run.end, end);
+    let log = run.log.bytes();
+    assert!(rt; log.ends_with(b"pce: listens at 192.0.2.10 port 9189 for metrics\npce: ready\n"));
+    let unstarted = serve_asked(rt, alloc, SETTINGS, NEVER, 14, None, scraping(alloc, NEVER)?)?;
+    assert_eq!(rt; unstarted.end, ended(b"no thread\n", 14, alloc)?);
+    let closed = serve_asked(rt, alloc, SETTINGS, NEVER, NEVER, None, scraping(alloc, 0)?)?;
+    assert_eq!(rt; closed.end.as_slice(), b"no port 9189\n".as_slice());
+    assert!(rt; closed.log.bytes().is_empty());
     Ok(())
 }
 

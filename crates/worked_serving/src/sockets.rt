@@ -125,6 +125,7 @@ fn each_client_is_answered(rt: HostRuntime) -> Result<(), Fail> {
         100,
         &mut told,
         &mut unrecorded(),
+        &mut None,
     );
     assert!(rt; matches!(served, Served::Turns));
     assert_eq!(rt; clients.join(&rt), Some([ANSWER, ANSWER]));

@@ -1,4 +1,4 @@
-use Rattle.std.proofs.Common.{rules, inl, inr, ◌≡◌, ◌⊎◌, ◌∙◌, ◌++◌, ◌∷◌, [], ℕ, Bool, List, Option, map, ap}
+use Rattle.std.proofs.Common.{rules, inl, inr, ◌≡◌, ◌⊎◌, ◌∙◌, ◌++◌, ◌∷◌, [], ℕ, Bool, List, Option, map, ap, arith}
 use Rattle.logbook.specs.Pages.{Book}
 use Rattle.ted_watch.specs.declared.shown.Shown.{Shown}
 use Rattle.ted_watch.specs.Watch.{carried, list_of, list_told, published}
@@ -14,7 +14,7 @@ use Rattle.network_serving.specs.Records.{HasFault, IsNoRecord, faults_in, is_as
 use Rattle.network_serving.specs.Starting.{Called, IsStartEnd, called}
 use Rattle.network_serving.specs.declared.served.Served.{Served}
 use Rattle.network_serving.specs.declared.served.Served.TheVariants as served
-use Rattle.network_serving.proofs.Starts.{bases_on, duties_on, recorded_bases_on, recorded_on, still_two, unstarted_end, unstarted_from, want_start, watched_end}
+use Rattle.network_serving.proofs.Starts.{bases_on, duties_on, recorded_bases_on, recorded_on, still_two, two_left, unstarted_end, unstarted_from, want_start, watched_end}
 use Rattle.network_serving.proofs.serving.start_network.Goals as goal
 
 pub returns-in_err-watches-clause-err : goal.returns-in_err-watches-clause-err
@@ -35,6 +35,14 @@ pub desk_beside-requires : goal.desk_beside-requires
 desk_beside-requires g c = record {
   seat = still_two (shares_at c.args.prepared.desk) (first_count c.args.prepared.network) (shares_at c.plan_tasks.new.desk) (shares_at c.plan_record.new.desk) c.requires.seats c.in_ok-tasks.ensures.seats c.in_ok-recorder.ensures.seat;
 }
+
+pub returns-clause-seat : goal.returns-clause-seat
+returns-clause-seat g c =
+    two_left (shares_at c.args.prepared.desk) (first_count c.args.prepared.network) (shares_at c.plan_tasks.new.desk) (shares_at c.plan_record.new.desk) (shares_at c.desk_beside.new.desk) c.requires.seats c.in_ok-tasks.ensures.seats
+    c.in_ok-recorder.ensures.seat c.in_ok-beside.ensures.seat
+
+pub returns-clause-later : goal.returns-clause-later
+returns-clause-later g c = omega (arith, c.in_ok-start_all.ensures.later, c.in_ok-start.ensures.later, c.in_ok-start_all-2.ensures.later, c.in_ok-start_record.ensures.later)
 
 pub start_all-requires-clause-new : goal.start_all-requires-clause-new
 start_all-requires-clause-new g c κs within =

@@ -9,3 +9,6 @@ returns-in-Carry-clause-stays g c = rw c.in-Carry.is c.carry_guided.ensures.stay
 
 pub returns-in-Operate-clause-stays : goal.returns-in-Operate-clause-stays
 returns-in-Operate-clause-stays g c = rw c.in-Operate.is (c.operate.ensures.stays, refl, c.operate.ensures.list)
+
+pub returns-in-Scrape-clause-stays : goal.returns-in-Scrape-clause-stays
+returns-in-Scrape-clause-stays g c = rw c.in-Scrape.is (c.serve_scrapes.ensures.stays, c.serve_scrapes.ensures.settings.0, c.serve_scrapes.ensures.settings.1)
