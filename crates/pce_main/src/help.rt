@@ -39,6 +39,7 @@ check NET           reads a network's settings and the topologies that they name
 Files that settings and scripts name are looked for in the folder of the settings. `serve` listens at
 the address in the variable PCE_LISTEN (`all` for all of the machine), or without it at 127.0.0.1. Where
 PCE_RECORD names a folder, from `/` on, it writes a record of all that it does into a new folder there.
+At the address and port in PCE_METRICS, where that is set, machines are told counts of it over HTTP.
 ";
 
 // The commands, each between blanks.

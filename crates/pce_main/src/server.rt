@@ -6,11 +6,11 @@ use dom_base::{NoMemory, Text};
 use dom_edge::{
     FileFolder, FileStore, InputSource, OutputSink, SocketPorts, WallCalendar, WallClock,
 };
-use network_serving::{Recording, Served, Spawner, ThreadSpawner, serve};
+use network_serving::{Recording, Scraping, Served, Spawner, ThreadSpawner, serve};
 use plant_text::NetFault;
 use std::env::{self, VarError};
 use std::fmt;
-use std::net::{IpAddr, Ipv6Addr};
+use std::net::{IpAddr, Ipv6Addr, SocketAddr};
 use std::sync::Wait;
 use std::thread::Threads;
 use std::time::Clock;
@@ -22,6 +22,8 @@ pub enum Ended {
     Usage,
     /// What PCE_LISTEN has is no address.
     NoAddress(String),
+    /// What PCE_METRICS has is no address with a port.
+    NoMetrics(String),
     Served(Served),
 }
 
@@ -29,7 +31,7 @@ impl Ended {
     /// The exit status.
     pub(crate) fn number(&self) -> u8 {
         match self {
-            Ended::Usage | Ended::NoAddress(_) => 1,
+            Ended::Usage | Ended::NoAddress(_) | Ended::NoMetrics(_) => 1,
             Ended::Served(Served::Turns | Served::Stopped) => 0,
             Ended::Served(Served::ReadFault) => 2,
             Ended::Served(Served::BadNetwork { .. }) => 4,
@@ -66,6 +68,7 @@ impl fmt::Display for Ended {
         match self {
             Ended::Usage => write!(f, "usage"),
             Ended::NoAddress(text) => write!(f, "PCE_LISTEN is no address: {text}"),
+            Ended::NoMetrics(text) => write!(f, "PCE_METRICS is no address and port: {text}"),
             Ended::Served(Served::Turns | Served::Stopped) => write!(f, "ok"),
             Ended::Served(Served::ReadFault) => write!(f, "read fault"),
             Ended::Served(Served::BadNetwork { file, line, fault }) => fmt_bad(
@@ -140,6 +143,51 @@ fn recording_of(rt: &HostRuntime) -> Result<Asked, Ended> {
     }
 }
 
+// The port of counts that is asked for, where one is.
+type Counted = Option<Scraping<NamedPorts<SocketPorts<HostRuntime>>>>;
+
+// The address and the port of that text. Nobody could ask at port 0.
+fn metrics_at(text: &str) -> Option<SocketAddr> {
+    match text.parse::<SocketAddr>() {
+        Ok(at) if at.port() > 0 => Some(at),
+        _ => None,
+    }
+}
+
+// A port of counts at that address.
+fn scraping_at(rt: &HostRuntime, at: SocketAddr) -> Result<Counted, NoMemory> {
+    let alloc = rt.alloc();
+    let place = Text::from_string(format!(in alloc; "{}", at.ip())?);
+    Ok(Some(Scraping {
+        ports: NamedPorts::new(*rt, SocketPorts::new(*rt, alloc, at.ip())),
+        port: at.port(),
+        place,
+    }))
+}
+
+// The port of counts that PCE_METRICS asks for. Without it there is none.
+fn scraping_of(rt: &HostRuntime) -> Result<Counted, Ended> {
+    match env::var(rt, "PCE_METRICS") {
+        Ok(text) => match metrics_at(text.as_str()) {
+            Some(at) => match scraping_at(rt, at) {
+                Ok(asked) => Ok(asked),
+                Err(_) => Err(Ended::Served(Served::NoMemory)),
+            },
+            None => Err(Ended::NoMetrics(text)),
+        },
+        Err(VarError::NotPresent) => Ok(None),
+        Err(VarError::NotUnicode) => Err(Ended::NoMetrics(String::new(rt.alloc()))),
+        Err(VarError::OutOfMemory) => Err(Ended::Served(Served::NoMemory)),
+    }
+}
+
+// What the variables ask for beside the address at which routers are listened for: a record, and a port of counts.
+fn asked_for(rt: &HostRuntime) -> Result<(Asked, Counted), Ended> {
+    let recording = recording_of(rt)?;
+    let scraping = scraping_of(rt)?;
+    Ok((recording, scraping))
+}
+
 /// Serves the network of these settings, whose files `store` reads, until a signal ends the process, or an operator's
 /// line does. `threads` is the handle of what
 /// waits and starts threads.
@@ -162,7 +210,7 @@ where
     let alloc = rt.alloc();
     let mut spawner: Spawner<R> = Spawner::Threads(ThreadSpawner::new(threads, alloc));
     let mut told = None;
-    let mut recording = match recording_of(rt) {
+    let (mut recording, mut scraping) = match asked_for(rt) {
         Ok(asked) => asked,
         Err(ended) => return ended,
     };
@@ -182,5 +230,6 @@ where
         u64::MAX,
         &mut told,
         &mut recording,
+        &mut scraping,
     ))
 }
