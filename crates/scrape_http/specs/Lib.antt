@@ -1,0 +1,3 @@
+-- for readers
+pub mod Asking
+pub mod Answers
