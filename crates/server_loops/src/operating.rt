@@ -99,6 +99,7 @@ fn turn<T: Shelf, I: Source, K: Sink, D: Chart, R: Wait + Drop>(
                 desk,
                 store,
                 network,
+                run_name,
                 publisher,
                 out,
                 begun,
