@@ -37,6 +37,7 @@ pub use recorder::{Recorder, Written};
 pub use recording::{Blames, Recording};
 pub use running::TaskEnd;
 pub use served::Served;
+pub use server_loops::FileShelf;
 pub use serving::serve;
 pub use spawner::Spawner;
 pub use tasks::Task;

@@ -1,6 +1,6 @@
 //! The tasks of a program that serves a network.
 use cost_cache::Cache;
-use dom_base::{As, List};
+use dom_base::{As, List, Text};
 use plant_text::{Comes, Network};
 use std::sync::Wait;
 use std::time::Clock;
@@ -29,11 +29,13 @@ pub enum Task<K, F, I, O, R: Wait + Clock + Drop> {
         cache: Cache,
         bench: WorkBench<R>,
     },
-    /// Does what an operator's lines say. What its publisher has shown is of elements of the settings.
+    /// Does what an operator's lines say. What its publisher has shown is of elements of the settings. Where a record is written, its run
+    /// has this name.
     Operate {
         desk: TurnDesk<R>,
         files: F,
         network: Network,
+        run_name: Option<Text>,
         publisher: Publisher<R>,
         input: I,
         out: O,
