@@ -36,7 +36,7 @@ module _ {K F I O R : Type 0} where
   base_in (task.Port peer comes listener desk) = Desk (stand_of desk)
   base_in (task.Carry links desk) = Desk (stand_of desk)
   base_in (task.Work index cache bench) = Desk (desk_of bench)
-  base_in (task.Operate desk files network publisher input out) = Operator (stand_of desk) network (published publisher) (list_of publisher)
+  base_in (task.Operate desk files network run publisher input out) = Operator (stand_of desk) network (published publisher) (list_of publisher)
   base_in (task.Watch rt index watcher listener) = Watcher (known watcher) (list_at watcher)
   base_in (task.Scrape clock seat page listener) = Counts (stand_of seat.desk) page.parts page.has_record
 

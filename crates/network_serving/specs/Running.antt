@@ -13,6 +13,7 @@ use Rattle.server_loops.specs.declared.port.Ran.TheVariants as ran
 use Rattle.server_loops.specs.declared.working.Worked.{Worked}
 use Rattle.server_loops.specs.declared.working.Worked.TheVariants as worked
 use Rattle.server_loops.specs.Operating.{Operates, context, side, sides, progress}
+use Rattle.server_loops.specs.Shelves.{Shelved}
 use Rattle.server_loops.specs.declared.operating.Operated.{Operated}
 use Rattle.server_loops.specs.declared.operating.Operated.TheVariants as operated
 use Rattle.turn_desk.specs.Desks.{IsStill, Stand, benched_of, desked_of, stand_of}
@@ -28,7 +29,7 @@ use Rattle.network_serving.specs.Scrapes.{surveys_at}
 use Rattle.network_serving.specs.Watching.{WatchesPort}
 use Rattle.network_serving.specs.Working.{WorksOn}
 
--- what is told of the outside: of a listener, of a store of files, of an input and of an output
+-- what is told of the outside: of a listener, of a shelf of files, of an input and of an output
 pub record Outside (K F I O : Type 0) : Type 0 where
   pub opened_at : K → ℕ
   pub heeds : K → Option Addr
@@ -39,6 +40,7 @@ pub record Outside (K F I O : Type 0) : Type 0 where
   pub files : F → Option Files
   pub store_faults : F → ℕ
   pub failed_at : F → List ℕ
+  pub shelved : F → Shelved
   pub left : I → Option (List ℕ)
   pub input_faults : I → ℕ
   pub written : O → Option (List ℕ)
@@ -77,11 +79,11 @@ module _ {K F I O R : Type 0} (x : Outside K F I O) (turns : ℕ) where
       (index' ≡ index) × WorksOn index turns turns e (bench_of bench) (bench_of bench') cache'
       × (works (bench_of bench').calls ≡ works (benched_of (desk_of bench')).calls)
       × WorkedAsShown e (desk_of bench')
-  RunsTask (end.Operated e) (task.Operate desk files network publisher input out) (task.Operate desk' files' network' publisher' input' out') =
-      (network' ≡ network) × (x.files files' ≡ x.files files)
-      × Operates (context network (x.files files)) turns e
-      (progress (charted_of (stand_of desk)) (published publisher) (x.store_faults files) (x.failed_at files))
-      (progress (charted_of (stand_of desk')) (published publisher') (x.store_faults files') (x.failed_at files'))
+  RunsTask (end.Operated e) (task.Operate desk files network run publisher input out) (task.Operate desk' files' network' run' publisher' input' out') =
+      (network' ≡ network) × (run' ≡ run) × (x.files files' ≡ x.files files)
+      × Operates (context network (x.files files) run) turns e
+      (progress (charted_of (stand_of desk)) (published publisher) (x.store_faults files) (x.failed_at files) (x.shelved files))
+      (progress (charted_of (stand_of desk')) (published publisher') (x.store_faults files') (x.failed_at files') (x.shelved files'))
       (sides (side (x.left input) (x.input_faults input)) (side (x.written out) (x.output_faults out)))
       (sides (side (x.left input') (x.input_faults input')) (side (x.written out') (x.output_faults out')))
       × OperatedAsShown e (stand_of desk')

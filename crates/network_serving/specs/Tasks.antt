@@ -15,7 +15,7 @@ module _ {K F I O R : Type 0} where
   duty_of opened_at (task.Port peer comes listener desk) = duty.Port peer (opened_at listener) comes
   duty_of opened_at (task.Carry links desk) = duty.Carry links
   duty_of opened_at (task.Work index cache bench) = duty.Work index
-  duty_of opened_at (task.Operate desk files network publisher input out) = duty.Operate
+  duty_of opened_at (task.Operate desk files network run publisher input out) = duty.Operate
   duty_of opened_at (task.Watch rt index watcher listener) = duty.Watch (opened_at listener) index
   duty_of opened_at (task.Scrape clock seat page listener) = duty.Scrape (opened_at listener)
 
@@ -24,7 +24,7 @@ module _ {K F I O R : Type 0} where
   abbrev pub IsNew : (K → Option Addr) → (K → Option Addr) → Task K F I O R → Type 0
   IsNew heeds dialled_to (task.Port peer comes listener desk) = (heeds listener ≡ heeded comes) × (dialled_to listener ≡ dialled comes)
   IsNew heeds dialled_to (task.Work index cache bench) = cache.entries ≡ []
-  IsNew heeds dialled_to (task.Operate desk files network publisher input out) = AreOfElements network (published publisher)
+  IsNew heeds dialled_to (task.Operate desk files network run publisher input out) = AreOfElements network (published publisher)
   IsNew heeds dialled_to (task.Watch rt index watcher listener) = (heeds listener ≡ None) × (dialled_to listener ≡ None)
   IsNew heeds dialled_to (task.Scrape clock seat page listener) = (heeds listener ≡ None) × (dialled_to listener ≡ None)
   IsNew heeds dialled_to (task.Carry links desk) = Unit {0}

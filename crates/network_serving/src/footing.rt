@@ -46,6 +46,7 @@ impl<K, F, I, O, R: Wait + Clock + Drop> Task<K, F, I, O, R> {
                 desk,
                 files: _,
                 network,
+                run_name: _,
                 publisher,
                 input: _,
                 out: _,

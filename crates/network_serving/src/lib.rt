@@ -40,6 +40,7 @@ pub use recording::{Blames, Recording};
 pub use running::TaskEnd;
 pub use scrapes::Scraping;
 pub use served::Served;
+pub use server_loops::FileShelf;
 pub use serving::serve;
 pub use spawner::Spawner;
 pub use surveys::SurveySeat;

@@ -15,7 +15,8 @@ use crate::footing::Footing;
 use crate::recorder::Recorder;
 use crate::tasks::Task;
 use dom_base::List;
-use dom_edge::{Calendar, Folder, Listener, Noted, PlannedCalls, Sink, Source, Store};
+use dom_edge::{Calendar, Folder, Listener, Noted, PlannedCalls, Sink, Source};
+use server_loops::Shelf;
 use std::alloc::Global;
 use std::marker::Model;
 use std::sync::Wait;
@@ -62,7 +63,7 @@ impl MemorySpawner {
     pub(crate) fn start<K, F, I, O, R>(&mut self, task: Task<K, F, I, O, R>) -> Begun
     where
         K: Listener + Drop,
-        F: Store + Drop,
+        F: Shelf + Drop,
         I: Source + Drop,
         O: Sink + Drop,
         R: Wait + Clock + Drop,

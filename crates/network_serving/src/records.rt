@@ -1,5 +1,6 @@
 //! The task that writes a record is planned and started.
 ghost use Rattle.std.specs.Prelude.{◌≡◌, ◌++◌, ◌+◌, ◌<◌, ◌≤◌, IfErr, IfOk, OnOk};
+ghost use Rattle.std.specs.Option.{option_map};
 ghost use Rattle.network_serving.specs.Bases.{record_bases};
 ghost use Rattle.network_serving.specs.Duties.{record_duties};
 ghost use Rattle.network_serving.specs.Records.{HasFault, IsNoRecord, desks_in, faults_in, is_asked};
@@ -15,6 +16,7 @@ use crate::recording::{Blames, Recording, begin_script};
 use crate::served::Served;
 use crate::spawner::Spawner;
 use crate::telling::tell_started;
+use dom_base::{NoMemory, Text};
 use dom_edge::{Calendar, Folder, Sink};
 use plant_text::Network;
 use std::alloc::Global;
@@ -69,6 +71,24 @@ where
         network,
         script,
     }))
+}
+
+/// The name of the run that a record is of, where one is written.
+pub(crate) fn run_name_of<G, M, E, R>(
+    alloc: Global,
+    recorder: &Option<Recorder<G, M, E, R>>,
+) -> Result<Option<Text>, NoMemory>
+where
+    G: Folder + Drop,
+    M: Calendar + Drop,
+    E: Sink + Drop,
+    R: Wait + Clock + Drop,
+    ensures { IfOk result (λ name. name ≡ option_map (λ r. r.script.name) recorder.now) }
+{
+    match recorder {
+        Some(recorder) => Ok(Some(Text::copy_of(alloc, recorder.script.name())?)),
+        None => Ok(None),
+    }
 }
 
 /// Starts what writes a record, where there is one, and says so.

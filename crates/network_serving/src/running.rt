@@ -4,9 +4,9 @@ ghost use Rattle.network_serving.specs.Tasks.{IsNew};
 use crate::tasks::Task;
 use crate::watching::watch_port;
 use crate::working::work_on;
-use dom_edge::{Listener, Sink, Source, Store};
+use dom_edge::{Listener, Sink, Source};
 use scrape_port::serve_scrapes;
-use server_loops::{Operated, Ran, Worked, carry_guided, operate, serve_port};
+use server_loops::{Operated, Ran, Shelf, Worked, carry_guided, operate, serve_port};
 use std::alloc::Global;
 use std::sync::Wait;
 use std::time::Clock;
@@ -24,14 +24,14 @@ pub enum TaskEnd {
     Scraping,
 }
 
-impl<K: Listener, F: Store, I: Source, O: Sink, R: Wait + Clock + Drop> Task<K, F, I, O, R> {
+impl<K: Listener, F: Shelf, I: Source, O: Sink, R: Wait + Clock + Drop> Task<K, F, I, O, R> {
     ghost use Rattle.network_serving.specs.Bases.{base_in};
     ghost use Rattle.network_serving.specs.Running.{RunsTask, StaysOn};
 
     /// Does it, for so many turns at most. It ends as the call of its kind does, but that a worker that ran out of memory begins anew.
     pub fn run(&mut self, alloc: Global, turns: u64) -> TaskEnd
         requires new { IsNew K.heeds K.dialled_to self.old }
-        ensures runs { RunsTask (record { opened_at = K.opened_at; heeds = K.heeds; dialled_to = K.dialled_to; accept_faults = K.faults; quiets = K.quiets; handed = K.handed; files = F.files; store_faults = F.faults; failed_at = F.failed_at; left = I.left; input_faults = I.faults; written = O.written; output_faults = O.faults }) turns result self.old self.new }
+        ensures runs { RunsTask (record { opened_at = K.opened_at; heeds = K.heeds; dialled_to = K.dialled_to; accept_faults = K.faults; quiets = K.quiets; handed = K.handed; files = F.files; store_faults = F.faults; failed_at = F.failed_at; shelved = F.shelved; left = I.left; input_faults = I.faults; written = O.written; output_faults = O.faults }) turns result self.old self.new }
         ensures stays { StaysOn (base_in self.old) (base_in self.new) }
     {
         match self {
@@ -53,12 +53,13 @@ impl<K: Listener, F: Store, I: Source, O: Sink, R: Wait + Clock + Drop> Task<K, 
                 desk,
                 files,
                 network,
+                run_name,
                 publisher,
                 input,
                 out,
             } => {
                 TaskEnd::Operated(operate(
-                    alloc, desk, files, network, publisher, input, out, turns,
+                    alloc, desk, files, network, run_name, publisher, input, out, turns,
                 ))
             }
             Task::Watch {

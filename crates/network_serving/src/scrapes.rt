@@ -12,9 +12,10 @@ use crate::starting::start;
 use crate::surveys::SurveySeat;
 use crate::tasks::Task;
 use dom_base::Text;
-use dom_edge::{Listener, Ports, Sink, Source, Store};
+use dom_edge::{Listener, Ports, Sink, Source};
 use plant_text::Comes;
 use scrape_port::{Page, Seconds};
+use server_loops::Shelf;
 use std::alloc::Global;
 use std::sync::Wait;
 use std::thread::Threads;
@@ -68,7 +69,7 @@ where
     S: Threads,
     K: Listener + Send + Drop + 'static,
     K::Link: Send + 'static,
-    F: Store + Send + Drop + 'static,
+    F: Shelf + Send + Drop + 'static,
     I: Source + Send + Drop + 'static,
     O: Sink + Send + Drop + 'static,
     R: Wait + Clock + Copy + Send + Drop + 'static,

@@ -18,7 +18,7 @@ ghost use Rattle.network_serving.specs.Watches.{AreUnused};
 use crate::planning::{desk_beside, plan_tasks};
 use crate::preparing::{Prepared, prepare};
 use crate::recording::{Blames, Recording};
-use crate::records::{plan_record, start_record};
+use crate::records::{plan_record, run_name_of, start_record};
 use crate::scrapes::{Scraping, open_scrapes, place_of, start_scrapes};
 use crate::served::Served;
 use crate::spawner::Spawner;
@@ -27,7 +27,7 @@ use crate::tasks::Task;
 use crate::telling::{tell_ready, tell_stopped};
 use crate::watches::plan_watches;
 use dom_edge::{Calendar, Clock as TickClock, Listener, Ports, Sink, Source, Store};
-use server_loops::tick_on;
+use server_loops::{Shelf, tick_on};
 use std::alloc::Global;
 use std::sync::Wait;
 use std::thread::Threads;
@@ -54,7 +54,7 @@ where
     Q::Port: Send + Drop + 'static,
     <Q::Port as Listener>::Link: Send + 'static,
     S: Threads,
-    F: Store + Send + Drop + 'static,
+    F: Shelf + Send + Drop + 'static,
     I: Source + Send + Drop + 'static,
     O: Sink + Send + Drop + 'static,
     R: Wait + Clock + Copy + Send + Drop + 'static,
@@ -94,12 +94,14 @@ where
         recorded,
         settings.as_slice(),
     )?;
+    let run_name = run_name_of(alloc, &recorder)?;
     start_all(alloc, spawner, log, at, parts.peers.as_slice(), tasks)?;
     let beside = desk_beside(rt, &mut desk)?;
     let operator: Task<Q::Port, F, I, O, R> = Task::Operate {
         desk: beside,
         files,
         network,
+        run_name,
         publisher,
         input,
         out,
@@ -160,7 +162,7 @@ where
     <Q::Port as Listener>::Link: Send + 'static,
     S: Threads,
     C: TickClock,
-    F: Store + Send + Drop + 'static,
+    F: Shelf + Send + Drop + 'static,
     I: Source + Send + Drop + 'static,
     O: Sink + Send + Drop + 'static,
     R: Wait + Clock + Copy + Send + Drop + 'static,

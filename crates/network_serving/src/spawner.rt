@@ -10,7 +10,8 @@ use crate::memory::MemorySpawner;
 use crate::recorder::Recorder;
 use crate::tasks::Task;
 use crate::threads::ThreadSpawner;
-use dom_edge::{Calendar, Folder, Listener, Sink, Source, Store};
+use dom_edge::{Calendar, Folder, Listener, Sink, Source};
+use server_loops::Shelf;
 use std::sync::Wait;
 use std::thread::Threads;
 use std::time::Clock;
@@ -30,7 +31,7 @@ impl<T: Threads> Spawner<T> {
     where
         K: Listener + Send + Drop + 'static,
         K::Link: Send + 'static,
-        F: Store + Send + Drop + 'static,
+        F: Shelf + Send + Drop + 'static,
         I: Source + Send + Drop + 'static,
         O: Sink + Send + Drop + 'static,
         R: Wait + Clock + Send + Drop + 'static,

@@ -10,8 +10,9 @@ use crate::served::Served;
 use crate::spawner::Spawner;
 use crate::tasks::Task;
 use crate::telling::tell_started;
-use dom_edge::{Listener, Sink, Source, Store};
+use dom_edge::{Listener, Sink, Source};
 use plant_text::PeerRow;
+use server_loops::Shelf;
 use std::alloc::Global;
 use std::sync::Wait;
 use std::thread::Threads;
@@ -31,7 +32,7 @@ where
     S: Threads,
     K: Listener + Send + Drop + 'static,
     K::Link: Send + 'static,
-    F: Store + Send + Drop + 'static,
+    F: Shelf + Send + Drop + 'static,
     I: Source + Send + Drop + 'static,
     O: Sink + Send + Drop + 'static,
     R: Wait + Clock + Copy + Send + Drop + 'static,
@@ -67,7 +68,7 @@ where
     S: Threads,
     K: Listener + Send + Drop + 'static,
     K::Link: Send + 'static,
-    F: Store + Send + Drop + 'static,
+    F: Shelf + Send + Drop + 'static,
     I: Source + Send + Drop + 'static,
     O: Sink + Send + Drop + 'static,
     R: Wait + Clock + Copy + Send + Drop + 'static,

@@ -1,7 +1,7 @@
 //! The tasks of a program that serves a network.
 use crate::surveys::SurveySeat;
 use cost_cache::Cache;
-use dom_base::{As, List};
+use dom_base::{As, List, Text};
 use plant_text::{Comes, Network};
 use scrape_port::{Page, Seconds};
 use std::sync::Wait;
@@ -31,11 +31,13 @@ pub enum Task<K, F, I, O, R: Wait + Clock + Drop> {
         cache: Cache,
         bench: WorkBench<R>,
     },
-    /// Does what an operator's lines say. What its publisher has shown is of elements of the settings.
+    /// Does what an operator's lines say. What its publisher has shown is of elements of the settings. Where a record is written, its run
+    /// has this name.
     Operate {
         desk: TurnDesk<R>,
         files: F,
         network: Network,
+        run_name: Option<Text>,
         publisher: Publisher<R>,
         input: I,
         out: O,

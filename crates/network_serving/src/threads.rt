@@ -13,7 +13,8 @@ use crate::duties::Duty;
 use crate::footing::Footing;
 use crate::recorder::{Recorder, Written};
 use crate::tasks::Task;
-use dom_edge::{Calendar, Folder, Listener, Noted, Sink, Source, Store};
+use dom_edge::{Calendar, Folder, Listener, Noted, Sink, Source};
+use server_loops::Shelf;
 use std::alloc::Global;
 use std::marker::Model;
 use std::snapshot::Snapshot;
@@ -61,7 +62,7 @@ impl<T: Threads> ThreadSpawner<T> {
     where
         K: Listener + Send + Drop + 'static,
         K::Link: Send + 'static,
-        F: Store + Send + Drop + 'static,
+        F: Shelf + Send + Drop + 'static,
         I: Source + Send + Drop + 'static,
         O: Sink + Send + Drop + 'static,
         R: Wait + Clock + Send + Drop + 'static,
@@ -115,26 +116,26 @@ pub(crate) struct AsRun<K, F, I, O, R: Wait + Clock + Drop>(Snapshot<Task<K, F, 
 impl<K, F, I, O, R> Promise<Task<K, F, I, O, R>> for AsRun<K, F, I, O, R>
 where
     K: Listener + Drop,
-    F: Store + Drop,
+    F: Shelf + Drop,
     I: Source + Drop,
     O: Sink + Drop,
     R: Wait + Clock + Drop,
 {
     ghost use Rattle.network_serving.specs.Running.{WasRun};
 
-    ghost kept_by = { λ p task. WasRun (record { opened_at = K.opened_at; heeds = K.heeds; dialled_to = K.dialled_to; accept_faults = K.faults; quiets = K.quiets; handed = K.handed; files = F.files; store_faults = F.faults; failed_at = F.failed_at; left = I.left; input_faults = I.faults; written = O.written; output_faults = O.faults }) p.0.value task };
+    ghost kept_by = { λ p task. WasRun (record { opened_at = K.opened_at; heeds = K.heeds; dialled_to = K.dialled_to; accept_faults = K.faults; quiets = K.quiets; handed = K.handed; files = F.files; store_faults = F.faults; failed_at = F.failed_at; shelved = F.shelved; left = I.left; input_faults = I.faults; written = O.written; output_faults = O.faults }) p.0.value task };
 }
 
 // Runs the task, and gives it back.
 fn run_all<K, F, I, O, R>(alloc: Global, task: Task<K, F, I, O, R>) -> Task<K, F, I, O, R>
 where
     K: Listener + Drop,
-    F: Store + Drop,
+    F: Shelf + Drop,
     I: Source + Drop,
     O: Sink + Drop,
     R: Wait + Clock + Drop,
     requires new { IsNew K.heeds K.dialled_to task }
-    ensures { WasRun (record { opened_at = K.opened_at; heeds = K.heeds; dialled_to = K.dialled_to; accept_faults = K.faults; quiets = K.quiets; handed = K.handed; files = F.files; store_faults = F.faults; failed_at = F.failed_at; left = I.left; input_faults = I.faults; written = O.written; output_faults = O.faults }) task result }
+    ensures { WasRun (record { opened_at = K.opened_at; heeds = K.heeds; dialled_to = K.dialled_to; accept_faults = K.faults; quiets = K.quiets; handed = K.handed; files = F.files; store_faults = F.faults; failed_at = F.failed_at; shelved = F.shelved; left = I.left; input_faults = I.faults; written = O.written; output_faults = O.faults }) task result }
 {
     let mut task = task;
     task.run(alloc, TASK_TURNS);
@@ -151,7 +152,7 @@ fn start_thread<T: Threads, K, F, I, O, R>(
 where
     K: Listener + Send + Drop + 'static,
     K::Link: Send + 'static,
-    F: Store + Send + Drop + 'static,
+    F: Shelf + Send + Drop + 'static,
     I: Source + Send + Drop + 'static,
     O: Sink + Send + Drop + 'static,
     R: Wait + Clock + Send + Drop + 'static,

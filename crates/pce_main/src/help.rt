@@ -26,8 +26,8 @@ replay NET [FROM TO]
                     plays a script of any length as it comes, as the record of a server, up to its last
                     whole line, writes the transcript of these lines, or of all
 serve NET           serves a network at the ports of its peers until it is ended by a signal: reads lines
-                    `load AS FILE`, `change AS FILE`, `shut NAME`, `break AS AS` and `stop`, which ends
-                    it, writes what came of each
+                    `load AS FILE`, `change AS FILE`, `write AS FILE`, `shut NAME`, `break AS AS`,
+                    `show`, `show NAME`, `show AS` and `stop`, which ends it, writes what came of each
 blind NET           reads a script whose solves have border tables, plays it on a network without
                     topologies, writes what closed peers hear
 bulk N              draws a large network and N requests (1 to 8000), writes what they are answered in all

@@ -6,7 +6,9 @@ use dom_base::{NoMemory, Text};
 use dom_edge::{
     FileFolder, FileStore, InputSource, OutputSink, SocketPorts, WallCalendar, WallClock,
 };
-use network_serving::{Recording, Scraping, Served, Spawner, ThreadSpawner, serve};
+use network_serving::{
+    FileShelf, Recording, Scraping, Served, Spawner, ThreadSpawner, serve,
+};
 use plant_text::NetFault;
 use std::env::{self, VarError};
 use std::fmt;
@@ -188,6 +190,12 @@ fn asked_for(rt: &HostRuntime) -> Result<(Asked, Counted), Ended> {
     Ok((recording, scraping))
 }
 
+// The folder of the settings, which was entered: what an operator has written goes there.
+fn folder_here(rt: &HostRuntime) -> Result<FileFolder<HostRuntime>, NoMemory> {
+    let alloc = rt.alloc();
+    Ok(FileFolder::new(alloc, *rt, Text::copy_of(alloc, ".")?))
+}
+
 /// Serves the network of these settings, whose files `store` reads, until a signal ends the process, or an operator's
 /// line does. `threads` is the handle of what
 /// waits and starts threads.
@@ -210,6 +218,10 @@ where
     let alloc = rt.alloc();
     let mut spawner: Spawner<R> = Spawner::Threads(ThreadSpawner::new(threads, alloc));
     let mut told = None;
+    let folder = match folder_here(rt) {
+        Ok(folder) => folder,
+        Err(_) => return Ended::Served(Served::NoMemory),
+    };
     let (mut recording, mut scraping) = match asked_for(rt) {
         Ok(asked) => asked,
         Err(ended) => return ended,
@@ -222,7 +234,7 @@ where
         &mut NamedPorts::new(*rt, SocketPorts::new(*rt, alloc, address)),
         &mut spawner,
         &mut WallClock::new(*rt),
-        FileStore::new(alloc, *rt),
+        FileShelf::new(FileStore::new(alloc, *rt), folder),
         InputSource::new(Patient::new(*rt, rt.reader())),
         Answers::new(*rt, OutputSink::new(Patient::new(*rt, rt.stdout()))),
         &mut StandardError::new(*rt),

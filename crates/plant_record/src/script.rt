@@ -41,6 +41,13 @@ impl<F: Sink + Drop> Model for Script<F> {
 }
 
 impl<F: Sink + Drop> Script<F> {
+    /// The name of its run.
+    pub fn name(&self) -> &str
+        ensures { result.now ≡ self.now.name }
+    {
+        self.name.as_str()
+    }
+
     // A script of no part.
     pub(crate) fn new(alloc: Global, name: Text, version: Text) -> Self
         ensures { result ≡ record { file = None; number = 0; pending = []; loads = 0; events = 0; tick = 0; name = name; version = version } }

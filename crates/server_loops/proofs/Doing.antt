@@ -18,6 +18,10 @@ use Rattle.plant_text.specs.declared.line.LineError.{LineError}
 use Rattle.plant_text.specs.declared.line.LineError.TheVariants.{Outside}
 use Rattle.plant_text.specs.declared.operator_line.OperatorLine.{OperatorLine}
 use Rattle.plant_text.specs.declared.operator_line.OperatorLine.TheVariants as line
+use Rattle.survey_figures.specs.declared.surveyed.Surveyed.{Surveyed}
+use Rattle.te_text.specs.TopologyText.{topology_text}
+use Rattle.server_loops.specs.Shelves.{Shelved}
+use Rattle.plant_text.specs.declared.operator_line.Subject.{Subject}
 use Rattle.plant_text.specs.declared.settings.NetworkParts.{NetworkParts}
 use Rattle.plant_text.specs.OperatorLines.{line_in}
 use Rattle.plant_text.specs.Settings.{is_element}
@@ -28,12 +32,13 @@ use Rattle.plant_model.specs.declared.outcome.Refused.{Refused}
 use Rattle.plant_model.specs.declared.outcome.Refused.TheVariants.{NoSuchPeer}
 use Rattle.transcript.specs.Lines.{answer_line}
 use Rattle.ted_watch.specs.declared.shown.Shown.{Shown}
-use Rattle.server_loops.specs.Charts.{Asks, Call, Charted, Current, Did, Mapped, current_of}
-use Rattle.server_loops.specs.Operating.{Context, Does, DoesAsked, DoesEvent, DoesShut, IsEndOf, IsFirstPart, Loads, Past, Publishes, ShowsMapped, Progress, WithFile, Work, is_done, line_most, past, shown_by}
-use Rattle.server_loops.specs.OperatorSteps.{Acted, Asked, DoesFile, DoesTask, DoesText, EndsAs, answered, Goes, IsBegun, IsFile, IsPartDone, Refuses, shut_task, task_of, text_of}
+use Rattle.server_loops.specs.Charts.{Asks, Call, Charted, Current, Did, Mapped, Saw, Sees, current_of}
+use Rattle.server_loops.specs.Operating.{Context, Does, DoesAsked, DoesEvent, DoesShut, DoesShow, IsEndOf, IsFirstPart, IsUnmoved, IsWritten, LeavesShelf, Loads, Past, Publishes, ShowsMapped, ShowsSurvey, Progress, WithFile, Work, WritesFile, has_slash, has_subject, is_done, line_most, past, shown_by}
+use Rattle.server_loops.specs.OperatorSteps.{Acted, Asked, DoesFile, DoesTask, DoesText, EndsAs, answered, Goes, IsBegun, IsFile, IsPartDone, Refuses, Wrote, shut_task, task_of, text_of}
 use Rattle.network_files.specs.Faults.{fault_text}
 use Rattle.server_loops.specs.Texts.{bad_network_text, read_fault_text, too_large_text}
 use Rattle.server_loops.specs.declared.lines.Task.{Task}
+use Rattle.server_loops.specs.declared.lines.Task.TheVariants.{Write}
 use Rattle.server_loops.specs.declared.operating.Operated.{Operated}
 use Rattle.server_loops.specs.declared.operating.Operated.TheVariants.{End, ReadFault, Turns, Spent, NoMemory}
 
@@ -392,6 +397,46 @@ asked_task x number (line.Shut peer) a b w does = asked_shut x number peer a b w
 asked_task x number (line.Break u v) a b w does = does
 asked_task x number (line.Write at name) a b w does = does
 
+-- a line that makes no file
+pub leaves_shelf : (asked : Option (Option OperatorLine)) (a b : Progress) → b.shelf ≡ a.shelf → LeavesShelf asked a b
+leaves_shelf None a b same = same
+leaves_shelf (Some None) a b same = same
+leaves_shelf (Some (Some (line.Load at name))) a b same = same
+leaves_shelf (Some (Some (line.Change at name))) a b same = same
+leaves_shelf (Some (Some line.Stop)) a b same = same
+leaves_shelf (Some (Some (line.Show subject))) a b same = same
+leaves_shelf (Some (Some (line.Shut peer))) a b same = same
+leaves_shelf (Some (Some (line.Break u v))) a b same = same
+leaves_shelf (Some (Some (line.Write at name))) a b same = λ none. same
+
+-- a line that makes no call
+pub unmoved_by : (asked : Option (Option OperatorLine)) (a b : Progress) → LeavesShelf asked a b → b.past ≡ a.past → IsUnmoved a b
+unmoved_by None a b leaves same = (same, leaves)
+unmoved_by (Some None) a b leaves same = (same, leaves)
+unmoved_by (Some (Some (line.Load at name))) a b leaves same = (same, leaves)
+unmoved_by (Some (Some (line.Change at name))) a b leaves same = (same, leaves)
+unmoved_by (Some (Some line.Stop)) a b leaves same = (same, leaves)
+unmoved_by (Some (Some (line.Show subject))) a b leaves same = (same, leaves)
+unmoved_by (Some (Some (line.Shut peer))) a b leaves same = (same, leaves)
+unmoved_by (Some (Some (line.Break u v))) a b leaves same = (same, leaves)
+unmoved_by (Some (Some (line.Write at name))) a b leaves same = (same, leaves (ap (λ (p : Past). p.calls) same))
+
+write_of : (e : OperatorLine) (at : As) (name : List ℕ) → task_of e ≡ Write at name → (s : As) × (k : List ℕ) × (e ≡ line.Write s k)
+write_of (line.Load s k) at name is = absurd (cc is)
+write_of (line.Change s k) at name is = absurd (cc is)
+write_of line.Stop at name is = absurd (cc is)
+write_of (line.Show subject) at name is = absurd (cc is)
+write_of (line.Shut None) at name is = absurd (cc is)
+write_of (line.Shut (Some peer)) at name is = absurd (cc is)
+write_of (line.Break u v) at name is = absurd (cc is)
+write_of (line.Write s k) at name is = (s, k, refl)
+
+-- a line that asks for a file
+pub leaves_by : (e : OperatorLine) (at : As) (name : List ℕ) (a b : Progress) → task_of e ≡ Write at name → (b.past.calls ≡ a.past.calls → b.shelf ≡ a.shelf) → LeavesShelf (Some (Some e)) a b
+leaves_by e at name a b is unasked =
+    let w = write_of e at name is in
+    subst (λ (o : OperatorLine). LeavesShelf (Some (Some o)) a b) (sym w.2) unasked
+
 pub asked_goes_task : (x : Context) (number : ℕ) (e : OperatorLine) (t : Task) (a b : Progress) (r : Result (Unit {0}) Operated) (p q : Past) (spent : Option ℕ) (before after : List ℕ) → task_of e ≡ t → Goes (DoesTask x number t a b) r p q spent before after → Goes (DoesAsked x number (Some (Some e)) a b) r p q spent before after
 asked_goes_task x number e t a b r p q spent before after is goes =
     goes_as (DoesTask x number (task_of e) a b) (DoesAsked x number (Some (Some e)) a b) (asked_task x number e a b) r p q spent before after
@@ -437,3 +482,59 @@ bad_network_parts v number name place why = simp append_assoc
 -- a line outside the form
 pub outside : (r : Result (Option OperatorLine) LineError) (said : Option (Option OperatorLine)) → r ≡ Err Outside → Gives r said → said ≡ None
 outside r said is gives = subst (λ (q : Result (Option OperatorLine) LineError). Gives q said) is gives
+
+-- ---- surveys
+
+-- a survey is told, or memory ran out
+pub saw_goes : (P : Work → Type 0) (s : Surveyed) (text : List ℕ) (r : Result (Unit {0}) Operated) (old new : Charted) (list : List Shown) (before after : List ℕ) → P (record { calls = Saw s ∷ []; shown = []; text = text }) → Sees old new (Ok (Ok s)) → OnOk r (after ≡ before ++ text) → IfErr r (λ (e : Operated). e ≡ NoMemory) → Goes P r (past old list) (past new list) new.spent before after
+saw_goes P s text (Ok u) old new list before after does sees told lack = one_done P (Saw s) text (past old list) (past new list) new.spent before after does sees.1 sees.0 refl told
+saw_goes P s text (Err end) old new list before after does sees told lack =
+    subst (λ (e : Operated). Goes P (Err e) (past old list) (past new list) new.spent before after) (sym lack) (
+      sees.1,
+      inr (record {
+        work = record { calls = Saw s ∷ []; shown = []; text = text };
+        does = does;
+        part = record { made = Saw s ∷ []; part = inl ([], refl); calls = sees.0; shown = inl refl };
+      }),
+    )
+
+-- memory ran out for a survey
+pub unseen_goes : (P : Work → Type 0) (lack : Lack) (old new : Charted) (list : List Shown) (before after : List ℕ) → Sees old new (Ok (Err lack)) → Goes P (Err NoMemory) (past old list) (past new list) new.spent before after
+unseen_goes P lack old new list before after sees = (sees.1, inl (same_past old new list sees.0))
+
+-- no survey comes, since the chart is spent
+pub spent_goes : (P : Work → Type 0) (t : ℕ) (old new : Charted) (list : List Shown) (before after : List ℕ) → Sees old new (Err t) → Goes P (Err (Spent t)) (past old list) (past new list) new.spent before after
+spent_goes P t old new list before after sees = (sees.1, inl (same_past old new list sees.0))
+
+-- what the settings have is shown
+pub has_goes : (number : ℕ) (asked : Subject) (n : NetworkParts) (run : Option (List ℕ)) (r : Result (Unit {0}) Operated) (a b : Past) (spent : Option ℕ) (before after : List ℕ) → has_subject n asked ≡ true → Goes (ShowsSurvey number asked n run) r a b spent before after → Goes (DoesShow number asked n run) r a b spent before after
+has_goes number asked n run r a b spent before after has goes = goes_as (ShowsSurvey number asked n run) (DoesShow number asked n run) (λ w d. rw has d) r a b spent before after goes
+
+pub lacks_says : (number : ℕ) (asked : Subject) (n : NetworkParts) (run : Option (List ℕ)) → has_subject n asked ≡ false → DoesShow number asked n run (record { calls = []; shown = []; text = answer_line number (Err NoSuchPeer) })
+lacks_says number asked n run lacks = rw lacks refl
+
+-- ---- new files
+
+-- what came of a new file is told, or memory ran out
+module _ (number : ℕ) (at : As) (name : List ℕ) (found : ℕ × Rows) (octets : List ℕ) (is : topology_text found.1 ≡ octets) (plain : has_slash name ≡ false) (s t : Shelved) where
+  written : (text : List ℕ) → IsWritten number name octets s t text → WritesFile number at name s t (record { calls = Mapped at (Ok (Some found)) ∷ []; shown = []; text = text })
+  written text w = inr (plain, Ok (Some found), text, refl, subst (λ (o : List ℕ). IsWritten number name o s t text) (sym is) w)
+
+  pub wrote_goes : (r : Result (Unit {0}) Operated) (old new : Charted) (list : List Shown) (before after : List ℕ) → Asked at (Ok (Some found)) old new → Wrote number name octets s t r before after → Goes (WritesFile number at name s t) r (past old list) (past new list) new.spent before after
+  wrote_goes (Ok u) old new list before after asked wrote =
+      one_done (WritesFile number at name s t) (Mapped at (Ok (Some found))) wrote.0 (past old list) (past new list) new.spent before after (written wrote.0 wrote.1) asked.1 asked.0 refl wrote.2
+  wrote_goes (Err end) old new list before after asked wrote = by wrote.1
+    where
+      by : (t ≡ s) ⊎ ((text : List ℕ) × IsWritten number name octets s t text) → Goes (WritesFile number at name s t) (Err end) (past old list) (past new list) new.spent before after
+      by (inl same) =
+          one_untold (WritesFile number at name s t) end at (Ok (Some found)) (Ok None) (record { calls = Mapped at (Ok None) ∷ []; shown = []; text = answer_line number (Err NoSuchPeer) }) [] (past old list) (past new list) new.spent before after
+          (inr (plain, Ok None, refl, same)) refl wrote.0 asked.1 asked.0 refl
+      by (inr w) =
+          one_untold (WritesFile number at name s t) end at (Ok (Some found)) (Ok (Some found)) (record { calls = Mapped at (Ok (Some found)) ∷ []; shown = []; text = w.0 }) [] (past old list) (past new list) new.spent before after (written w.0 w.1) refl wrote.0 asked.1 asked.0 refl
+
+-- there is one call more
+pub one_differs : {A : Type 0} (xs ys : List A) (x : A) → ys ≡ xs ++ x ∷ [] → ys ≡ xs → ⊥
+one_differs xs ys x more same = omega (arith, ap (λ (l : List _). length l) more, ap (λ (l : List _). length l) same, length-append xs (x ∷ []))
+
+pub asked_differs : (at : As) (found : Option (ℕ × Rows)) (old new : Charted) → Asked at (Ok found) old new → new.calls ≡ old.calls → ⊥
+asked_differs at found old new asked same = one_differs old.calls new.calls (Mapped at (Ok found)) asked.0 same

@@ -6,7 +6,7 @@ use Rattle.std.specs.Str.Lines.{strip_carriage_return}
 use Rattle.std.proofs.lemmas.List.{length-map, map-append}
 use Rattle.std.proofs.lemmas.List.Elements.{All-append, All-nil, All-push}
 use Rattle.std.proofs.lemmas.List.Concat.{flat_map-append}
-use Rattle.server_loops.specs.Operating.{AreDone, AreSaid, AreTaken, Context, EndsBy, HasNoEnd, IsCut, IsDone, IsEndOf, IsLeft, IsNext, IsSaid, Progress, Side, Stops, ended, line_most}
+use Rattle.server_loops.specs.Operating.{AreDone, AreSaid, AreTaken, Context, EndsBy, HasNoEnd, IsCut, IsDone, IsEndOf, IsLeft, IsNext, IsSaid, IsUnmoved, LeavesShelf, Progress, Side, Stops, ended, line_most}
 use Rattle.server_loops.specs.OperatorSteps.{Begun, Cuts, CutsOff, EndsLine, Feeds, Finishes, IsBegun, Lasts, TakesOn, text_of}
 use Rattle.server_loops.specs.declared.operating.Operated.{Operated}
 use Rattle.server_loops.specs.declared.operating.Operated.TheVariants.{End, ReadFault, Turns, Spent, NoMemory}
@@ -184,13 +184,13 @@ module _ (x : Context) where
     mid = a;
     told = [];
     taken = taken_none k (line ++ byte ∷ []) a;
-    stops = subst (λ (e : Operated). Stops x (k + 1) e ⊥ (line ++ byte ∷ []) a a old old []) (sym is) (inl refl, refl);
+    stops = subst (λ (e : Operated). Stops x (k + 1) e ⊥ (line ++ byte ∷ []) a a old old []) (sym is) (inl (refl, refl), refl);
   }
 
   next : (line : List ℕ) → HasNoEnd line → IsNext ⊥ (line ++ 10 ∷ []) (strip_carriage_return line)
   next line never = inl (line, [], never, sym (append-nil (line ++ 10 ∷ [])), refl)
 
-  part : (line : List ℕ) → HasNoEnd line → (a b : Progress) (f : Begun) → (b.past ≡ a.past) ⊎ IsCut x (f.before + 1) (text_of true line) a b → IsLeft x (f.before + 1) ⊥ (line ++ 10 ∷ []) a b
+  part : (line : List ℕ) → HasNoEnd line → (a b : Progress) (f : Begun) → IsUnmoved a b ⊎ IsCut x (f.before + 1) (text_of true line) a b → IsLeft x (f.before + 1) ⊥ (line ++ 10 ∷ []) a b
   part line never a b f (inl e) = inl e
   part line never a b f (inr cut) = inr (strip_carriage_return line, next line never, cut)
 
@@ -259,7 +259,7 @@ module _ (x : Context) where
     λ e. absurd (cc e),
   )
 
-  last_left : (k : ℕ) (line : List ℕ) (a b : Progress) → HasNoEnd line → line ≢ [] → (b.past ≡ a.past) ⊎ IsCut x k line a b → IsLeft x k (Unit {0}) line a b
+  last_left : (k : ℕ) (line : List ℕ) (a b : Progress) → HasNoEnd line → line ≢ [] → IsUnmoved a b ⊎ IsCut x k line a b → IsLeft x k (Unit {0}) line a b
   last_left k line a b never some (inl e) = inl e
   last_left k line a b never some (inr cut) = inr (line, inr (tt, never, some, refl), cut)
 

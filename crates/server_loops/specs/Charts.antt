@@ -8,6 +8,7 @@ use Rattle.te_links.specs.Rows.{Rows}
 use Rattle.plant_model.specs.declared.event.Event.{Event}
 use Rattle.plant_model.specs.declared.outcome.Outcome.{Outcome}
 use Rattle.plant_model.specs.declared.outcome.Refused.{Refused}
+use Rattle.survey_figures.specs.declared.surveyed.Surveyed.{Surveyed}
 use Rattle.server_loops.specs.declared.desks.DeskRefused.{DeskRefused}
 use Rattle.server_loops.specs.declared.desks.DeskRefused.TheVariants.{Plant, Spent}
 
@@ -22,10 +23,11 @@ module _ {A : Type 0} where
   current_of worth (Ok (Some found)) = Ok (Some (found.0, worth found.1))
   current_of worth (Err why) = Err why
 
--- a call, with its answer
+-- a call, with its answer: an event, a question for a topology, or a survey that came
 pub data Call : Type 0 where
   Did : Event → Result Outcome Refused → Call
   Mapped : As → Current → Call
+  Saw : Surveyed → Call
 
 -- the calls that were made, the oldest first, and at which number the chart was spent
 pub record Charted : Type 0 where
@@ -53,6 +55,12 @@ pub record Goes (old new : Charted) (e : Event) (answer : Result Outcome DeskRef
 abbrev pub Halts : Charted → Charted → Result (Unit {0}) ℕ → Type 0
 Halts old new (Ok done) = (new.calls ≡ old.calls) × (new.spent ≡ None)
 Halts old new (Err t) = (new.calls ≡ old.calls) × (new.spent ≡ Some t)
+
+-- One more survey, unless the chart is spent or memory lacks for it.
+abbrev pub Sees : Charted → Charted → Result (Result Surveyed NoMemory) ℕ → Type 0
+Sees old new (Ok (Ok s)) = (new.calls ≡ old.calls ++ Saw s ∷ []) × (new.spent ≡ None)
+Sees old new (Ok (Err lack)) = (new.calls ≡ old.calls) × (new.spent ≡ None)
+Sees old new (Err t) = (new.calls ≡ old.calls) × (new.spent ≡ Some t)
 
 -- One more question, unless the chart is spent; then it is told of no topology.
 pub record Asks (old new : Charted) (at : As) (answer : Current) : Type 0 where

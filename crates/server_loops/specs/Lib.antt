@@ -4,6 +4,7 @@ pub mod Sites
 pub mod Sessions
 pub mod Serving
 pub mod Charts
+pub mod Shelves
 pub mod Texts
 pub mod Operating
 pub mod Benches

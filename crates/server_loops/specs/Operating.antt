@@ -1,6 +1,7 @@
 -- What an operator's lines do, and the answers to them.
-use Rattle.std.specs.Prelude.{◌≡◌, ◌≢◌, ◌⊎◌, ◌≤◌, ◌+◌, ◌&&◌, ℕ, Bool, true, false, nat_lt, codes, List, [], ◌∷◌, ◌++◌, length, map, All, MatchBool, Result, Ok, Err, Some, None, if◌then◌else◌}
-use Rattle.std.specs.List.{flat_map}
+use Rattle.std.specs.Prelude.{◌≡◌, ◌≢◌, ◌⊎◌, ◌≤◌, ◌+◌, ◌&&◌, ◌==◌, ℕ, Bool, true, false, nat_lt, codes, List, [], ◌∷◌, ◌++◌, length, map, All, MatchBool, Result, Ok, Err, Some, None, if◌then◌else◌}
+use Rattle.std.specs.List.{flat_map, list_any}
+use Rattle.std.specs.Option.{is_some}
 use Rattle.std.specs.declared.option.Option.{Option}
 use Rattle.std.specs.Str.Lines.{strip_carriage_return}
 use Rattle.std.specs.Io.KnownBytes.{Appends, Consumes}
@@ -9,7 +10,10 @@ use Rattle.dom_edge.specs.Causes.{Rose}
 use Rattle.dom_edge.specs.Stores.{Files, HasFile, IsLongFile}
 use Rattle.dom_edge.specs.Whole.{AppendsSome}
 use Rattle.te_links.specs.Rows.{Rows}
+use Rattle.survey_figures.specs.declared.surveyed.Surveyed.{Surveyed}
+use Rattle.survey_lines.specs.Shows.{show_text}
 use Rattle.te_text.specs.Reads.{Reads}
+use Rattle.te_text.specs.TopologyText.{topology_text}
 use Rattle.te_deltas.specs.Answers.{IsBuiltOf}
 use Rattle.te_deltas.specs.ChangeText.{change_file_most, text_in}
 use Rattle.te_deltas.specs.declared.changes.Change.{Change}
@@ -17,6 +21,8 @@ use Rattle.network_files.specs.Reading.{IsChangeFault, IsTextFault, IsTopologyFa
 use Rattle.plant_text.specs.declared.fault.NetFault.{NetFault}
 use Rattle.plant_text.specs.declared.operator_line.OperatorLine.{OperatorLine}
 use Rattle.plant_text.specs.declared.operator_line.OperatorLine.TheVariants as line
+use Rattle.plant_text.specs.declared.operator_line.Subject.{Subject}
+use Rattle.plant_text.specs.declared.operator_line.Subject.TheVariants as subject
 use Rattle.plant_text.specs.declared.settings.NetworkParts.{NetworkParts}
 use Rattle.plant_text.specs.OperatorLines.{line_in}
 use Rattle.plant_text.specs.Settings.{is_element}
@@ -28,8 +34,9 @@ use Rattle.plant_model.specs.declared.outcome.Refused.TheVariants.{NoSuchPeer}
 use Rattle.transcript.specs.Lines.{answer_line}
 use Rattle.ted_watch.specs.declared.shown.Shown.{Shown}
 use Rattle.ted_watch.specs.Published.{generation_of, last_of}
-use Rattle.server_loops.specs.Charts.{Call, Charted, Current, Did, Mapped}
-use Rattle.server_loops.specs.Texts.{bad_line_text, bad_network_text, read_fault_text, stop_text, too_large_text}
+use Rattle.server_loops.specs.Charts.{Call, Charted, Current, Did, Mapped, Saw}
+use Rattle.server_loops.specs.Shelves.{AddsName, AddsWhole, Shelved}
+use Rattle.server_loops.specs.Texts.{bad_line_text, bad_name_text, bad_network_text, done_text, no_file_text, read_fault_text, stop_text, too_large_text, write_fault_text}
 use Rattle.server_loops.specs.declared.operating.Operated.{Operated}
 use Rattle.server_loops.specs.declared.operating.Operated.TheVariants.{End, ReadFault, Turns, Spent, NoMemory}
 
@@ -37,13 +44,14 @@ use Rattle.server_loops.specs.declared.operating.Operated.TheVariants.{End, Read
 abbrev pub line_most : ℕ
 line_most = 262144
 
--- what lines are read against: the settings, and the files where they are told
+-- what lines are read against: the settings, the files where they are told, and the name of the run that a record is of, where one is
 pub record Context : Type 0 where
   pub network : NetworkParts
   pub files : Option Files
+  pub run : Option (List ℕ)
 
-abbrev pub context : NetworkParts → Option Files → Context
-context n files = record { network = n; files = files }
+abbrev pub context : NetworkParts → Option Files → Option (List ℕ) → Context
+context n files run = record { network = n; files = files; run = run }
 
 -- all entries are of elements of the settings
 abbrev pub AreOfElements : NetworkParts → List Shown → Type 0
@@ -57,14 +65,15 @@ pub record Past : Type 0 where
 abbrev pub past : Charted → List Shown → Past
 past c shown = record { calls = c.calls; shown = shown }
 
--- what stands between two lines: what was done so far, how often the store failed, and at which name last
+-- what stands between two lines: what was done so far, how often a read of the store failed, and at which name last, and what of new files
 pub record Progress : Type 0 where
   pub past : Past
   pub faults : ℕ
   pub failed_at : List ℕ
+  pub shelf : Shelved
 
-abbrev pub progress : Charted → List Shown → ℕ → List ℕ → Progress
-progress c shown faults failed_at = record { past = past c shown; faults = faults; failed_at = failed_at }
+abbrev pub progress : Charted → List Shown → ℕ → List ℕ → Shelved → Progress
+progress c shown faults failed_at shelf = record { past = past c shown; faults = faults; failed_at = failed_at; shelf = shelf }
 
 -- what a line does: its calls, the entries that it shows, and what is said of it
 pub record Work : Type 0 where
@@ -163,6 +172,48 @@ abbrev pub DoesShut : Option ℕ → ℕ → Work → Type 0
 DoesShut None number w = Says (answer_line number (Err NoSuchPeer)) w
 DoesShut (Some peer) number w = DoesEvent (event.Shut peer) number w
 
+-- ---- a line that asks for a survey
+
+-- the settings have what is asked for
+abbrev pub has_subject : NetworkParts → Subject → Bool
+has_subject n subject.All = true
+has_subject n (subject.Element at) = is_element n at
+has_subject n (subject.Peer peer) = is_some peer
+
+-- all that is told is of one survey
+abbrev pub ShowsSurvey : ℕ → Subject → NetworkParts → Option (List ℕ) → Work → Type 0
+ShowsSurvey number asked n run w = (s : Surveyed) × (w ≡ record { calls = Saw s ∷ []; shown = []; text = show_text number asked n s run })
+
+-- what the settings do not have is refused, and nothing is asked for
+abbrev pub DoesShow : ℕ → Subject → NetworkParts → Option (List ℕ) → Work → Type 0
+DoesShow number asked n run w = MatchBool (has_subject n asked) (ShowsSurvey number asked n run w) (Says (answer_line number (Err NoSuchPeer)) w)
+
+-- ---- a line that writes a topology
+
+-- the name leads out of its folder, or into another one
+abbrev pub has_slash : List ℕ → Bool
+has_slash name = list_any (λ c. c == 47) name
+
+-- What is said of a new file: that it is there with these octets; or that none was made, or that it is not whole, and then there was a fault.
+abbrev pub IsWritten : ℕ → List ℕ → List ℕ → Shelved → Shelved → List ℕ → Type 0
+IsWritten number name octets old new text =
+    (AddsWhole old.contents new.contents name octets × (text ≡ done_text number))
+    ⊎ ((new.contents ≡ old.contents) × Rose old.faults new.faults × (text ≡ no_file_text number name))
+    ⊎ (AddsName old.contents new.contents name × Rose old.faults new.faults × (text ≡ write_fault_text number name))
+
+-- the topology of a map is written
+abbrev pub WritesMapped : ℕ → As → List ℕ → Shelved → Shelved → Current → Work → Type 0
+WritesMapped number at name old new (Ok None) w = (w ≡ record { calls = Mapped at (Ok None) ∷ []; shown = []; text = answer_line number (Err NoSuchPeer) }) × (new ≡ old)
+WritesMapped number at name old new (Ok (Some found)) w =
+    (text : List ℕ) × (w ≡ record { calls = Mapped at (Ok (Some found)) ∷ []; shown = []; text = text }) × IsWritten number name (topology_text found.1) old new text
+WritesMapped number at name old new (Err why) w = ⊥
+
+-- the current topology is written into a new file, but for a name that is no plain one
+abbrev pub WritesFile : ℕ → As → List ℕ → Shelved → Shelved → Work → Type 0
+WritesFile number at name old new w =
+    ((has_slash name ≡ true) × Says (bad_name_text number name) w × (new ≡ old))
+    ⊎ ((has_slash name ≡ false) × ((m : Current) × WritesMapped number at name old new m w))
+
 -- ---- a line
 
 -- what a line does that says this; None where it is outside the form
@@ -174,7 +225,13 @@ DoesAsked x number (Some (Some (line.Change at name))) a b w = WithFile x number
 DoesAsked x number (Some (Some line.Stop)) a b w = Says (stop_text number) w
 DoesAsked x number (Some (Some (line.Shut peer))) a b w = DoesShut peer number w
 DoesAsked x number (Some (Some (line.Break one other))) a b w = DoesEvent (event.Break one other) number w
-DoesAsked x number (Some (Some e)) a b w = Says (bad_line_text number) w
+DoesAsked x number (Some (Some (line.Show asked))) a b w = DoesShow number asked x.network x.run w
+DoesAsked x number (Some (Some (line.Write at name))) a b w = WritesFile number at name a.shelf b.shelf w
+
+-- a line other than `write` makes no file, and neither does one that makes no call
+abbrev pub LeavesShelf : Option (Option OperatorLine) → Progress → Progress → Type 0
+LeavesShelf (Some (Some (line.Write at name))) a b = b.past.calls ≡ a.past.calls → b.shelf ≡ a.shelf
+LeavesShelf e a b = b.shelf ≡ a.shelf
 
 -- what a line of this number does between two stages
 abbrev pub Does : Context → ℕ → List ℕ → Progress → Progress → Work → Type 0
@@ -187,6 +244,7 @@ pub record IsDone (x : Context) (number : ℕ) (text : List ℕ) (a b : Progress
   pub calls : b.past.calls ≡ a.past.calls ++ work.calls
   pub shown : b.past.shown ≡ a.past.shown ++ work.shown
   pub later : a.faults ≤ b.faults
+  pub shelf : LeavesShelf (line_in x.network text) a b
   pub said : told ≡ work.text
 
 -- calls are a first part of others, but for what a question at their end was answered
@@ -207,6 +265,7 @@ pub record IsCut (x : Context) (number : ℕ) (text : List ℕ) (a b : Progress)
   pub work : Work
   pub does : Does x number text a b work
   pub part : IsPartOf work a.past b.past
+  pub shelf : LeavesShelf (line_in x.network text) a b
 
 -- lines one after the other, the first of which has this number, and what is said of each
 abbrev pub AreDone : Context → ℕ → List (List ℕ) → Progress → Progress → List (List ℕ) → Type 0
@@ -261,9 +320,13 @@ abbrev pub EndsBy : Context → ℕ → List ℕ → Progress → Progress → S
 EndsBy x number [] a b old new told = (b ≡ a) × AreSaid told old new
 EndsBy x number (c ∷ cs) a b old new told = (last : List ℕ) × IsDone x number (c ∷ cs) a b last × AreSaid (told ++ last ∷ []) old new
 
+-- no call is made, and no file
+abbrev pub IsUnmoved : Progress → Progress → Type 0
+IsUnmoved a b = (b.past ≡ a.past) × (b.shelf ≡ a.shelf)
+
 -- nothing more is done, or a part of what the next line asks for
 abbrev pub IsLeft : Context → ℕ → Type 0 → List ℕ → Progress → Progress → Type 0
-IsLeft x number IsLast rest a b = (b.past ≡ a.past) ⊎ ((text : List ℕ) × IsNext IsLast rest text × IsCut x number text a b)
+IsLeft x number IsLast rest a b = IsUnmoved a b ⊎ ((text : List ℕ) × IsNext IsLast rest text × IsCut x number text a b)
 
 -- How it stops by an end behind the lines that are done, of which this is said.
 abbrev pub Stops : Context → ℕ → Operated → Type 0 → List ℕ → Progress → Progress → Side → Side → List (List ℕ) → Type 0

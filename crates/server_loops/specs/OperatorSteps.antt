@@ -21,10 +21,11 @@ use Rattle.plant_model.specs.declared.outcome.Refused.TheVariants.{NoSuchPeer}
 use Rattle.transcript.specs.Lines.{answer_line}
 use Rattle.ted_watch.specs.declared.shown.Shown.{Shown}
 use Rattle.server_loops.specs.Charts.{Call, Charted, Did, Mapped}
-use Rattle.server_loops.specs.Operating.{AreSaid, AreTaken, ChangesFile, Context, DoesEvent, HasCause, HasNoEnd, IsCut, IsDone, IsEndOf, IsPartOf, IsReadOut, IsSaid, LoadsFile, Past, Says, Side, Sides, Progress, Stops, WithFile, Work, line_most}
+use Rattle.server_loops.specs.Operating.{AreSaid, AreTaken, ChangesFile, Context, DoesEvent, DoesShow, HasCause, HasNoEnd, IsCut, IsDone, IsEndOf, IsPartOf, IsReadOut, IsSaid, IsUnmoved, IsWritten, LoadsFile, Past, Says, Side, Sides, Progress, Stops, WithFile, Work, WritesFile, line_most}
+use Rattle.server_loops.specs.Shelves.{Shelved}
 use Rattle.server_loops.specs.Texts.{bad_line_text, bad_network_text, read_fault_text, stop_text, too_large_text}
 use Rattle.server_loops.specs.declared.lines.Task.{Task}
-use Rattle.server_loops.specs.declared.lines.Task.TheVariants.{File, Make, NoPeer, Nothing, Stop}
+use Rattle.server_loops.specs.declared.lines.Task.TheVariants.{File, Make, NoPeer, Show, Stop, Write}
 use Rattle.server_loops.specs.declared.operating.Operated.{Operated}
 use Rattle.server_loops.specs.declared.operating.Operated.TheVariants.{ReadFault, Turns, Spent, NoMemory}
 
@@ -88,6 +89,11 @@ IsFile files number name (Ok None) faults now failed_at before after =
     ⊎ (IsLongFile files name change_file_most × (after ≡ before ++ too_large_text number name))
 IsFile files number name (Err end) faults now failed_at before after = end ≡ NoMemory
 
+-- What came of a new file is said; or memory ran out, before anything came of it or behind that.
+abbrev pub Wrote : ℕ → List ℕ → List ℕ → Shelved → Shelved → Result (Unit {0}) Operated → List ℕ → List ℕ → Type 0
+Wrote number name octets old new (Ok u) before after = (text : List ℕ) × IsWritten number name octets old new text × (after ≡ before ++ text)
+Wrote number name octets old new (Err end) before after = (end ≡ NoMemory) × ((new ≡ old) ⊎ ((text : List ℕ) × IsWritten number name octets old new text))
+
 -- what a line asks to be done
 abbrev pub shut_task : Option ℕ → Task
 shut_task None = NoPeer
@@ -99,7 +105,8 @@ task_of (line.Change at name) = File true at name
 task_of (line.Shut peer) = shut_task peer
 task_of (line.Break one other) = Make (event.Break one other)
 task_of line.Stop = Stop
-task_of e = Nothing
+task_of (line.Show asked) = Show asked
+task_of (line.Write at name) = Write at name
 
 -- what a file asks for, by whether it has changes
 abbrev pub DoesText : Bool → NetworkParts → ℕ → As → List ℕ → List Shown → List ℕ → Work → Type 0
@@ -115,7 +122,8 @@ DoesTask x number (File is_change at name) a b w = DoesFile x number is_change a
 DoesTask x number Stop a b w = Says (stop_text number) w
 DoesTask x number (Make e) a b w = DoesEvent e number w
 DoesTask x number NoPeer a b w = Says (answer_line number (Err NoSuchPeer)) w
-DoesTask x number Nothing a b w = Says (bad_line_text number) w
+DoesTask x number (Show asked) a b w = DoesShow number asked x.network x.run w
+DoesTask x number (Write at name) a b w = WritesFile number at name a.shelf b.shelf w
 
 -- the chart after a line
 abbrev pub EndsAs : Result (Unit {0}) Operated → Option ℕ → Type 0
@@ -176,7 +184,7 @@ Feeds x piece (Err end) line p q a b old new = CutsOff x end ⊥ piece line p.be
 abbrev pub EndsLine : Context → Bool → List ℕ → Result (Unit {0}) Operated → Begun → Begun → Progress → Progress → Side → Side → Type 0
 EndsLine x has_end line (Ok u) p q a b old new =
     (told : List ℕ) × IsDone x (p.before + 1) (text_of has_end line) a b told × IsSaid told old new × (q.before ≡ p.before + 1) × IsBegun q.bytes q.is_long []
-EndsLine x has_end line (Err end) p q a b old new = ((b.past ≡ a.past) ⊎ IsCut x (p.before + 1) (text_of has_end line) a b) × (new ≡ old)
+EndsLine x has_end line (Err end) p q a b old new = (IsUnmoved a b ⊎ IsCut x (p.before + 1) (text_of has_end line) a b) × (new ≡ old)
 
 -- the chart behind them
 abbrev pub Lasts : Result (Unit {0}) Operated → Option ℕ → Type 0

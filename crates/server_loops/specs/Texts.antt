@@ -19,3 +19,16 @@ read_fault_text n = numbered n (codes "read fault")
 
 abbrev pub too_large_text : ℕ → List ℕ → List ℕ
 too_large_text n name = numbered n (codes "too large " ++ name)
+
+-- what is asked for was done
+abbrev pub done_text : ℕ → List ℕ
+done_text n = numbered n (codes "ok")
+
+abbrev pub bad_name_text : ℕ → List ℕ → List ℕ
+bad_name_text n name = numbered n (codes "bad name " ++ name)
+
+abbrev pub no_file_text : ℕ → List ℕ → List ℕ
+no_file_text n name = numbered n (codes "no new file " ++ name)
+
+abbrev pub write_fault_text : ℕ → List ℕ → List ℕ
+write_fault_text n name = numbered n (codes "write fault " ++ name)

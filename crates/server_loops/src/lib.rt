@@ -3,8 +3,9 @@
 //! solves them outside every call of the bench, and hands the solutions back; and the lines of an operator, who loads topologies into a network
 //! that runs. No call here waits but by what it is handed.
 //!
-//! A line of an operator is `load AS FILE`, `change AS FILE` or `stop`. It is answered under its number, and whatever is wrong with it, the
-//! next line is read. After a load that was accepted the topology is shown to watchers.
+//! A line of an operator is `load AS FILE`, `change AS FILE`, `write AS FILE`, `shut NAME`, `break AS AS`, `show`, `show NAME`, `show AS` or
+//! `stop`. It is answered under its number, and whatever is wrong with it, the next line is read. After a load that was accepted the topology
+//! is shown to watchers.
 #![tactic(auto)]
 
 mod asking;
@@ -20,6 +21,8 @@ mod operating;
 mod port;
 mod publishing;
 mod sessions;
+mod shelves;
+mod showing;
 mod sites;
 mod solving;
 mod taking;
@@ -28,6 +31,7 @@ mod ticking;
 mod turn;
 mod worker_turn;
 mod working;
+mod writing;
 
 pub use benches::{Bench, Finished};
 pub use carrying::{carry_guided, carry_links};
@@ -41,6 +45,7 @@ pub use plant_model as model;
 pub use port::{Ran, serve_port};
 pub use publishing::publish;
 pub use sessions::{Ended, serve_session};
+pub use shelves::{FileShelf, Shelf, ShelfError};
 pub use sites::Sited;
 pub use ticking::{Ends, tick_on};
 pub use working::{Worked, work};

@@ -3,7 +3,7 @@ ghost use Rattle.std.specs.Prelude.{◌≡◌, ◌≢◌, ◌≤◌, ◌∷◌, 
 ghost use Rattle.ted_watch.specs.Watch.{list_of, published};
 ghost use Rattle.ted_watch.specs.declared.shown.Shown.{Shown};
 ghost use Rattle.server_loops.specs.Desks.{IsOwnLoad};
-ghost use Rattle.server_loops.specs.Operating.{AreOfElements, Does, DoesAsked, DoesEvent, Says, context, line_most, past, progress};
+ghost use Rattle.server_loops.specs.Operating.{AreOfElements, Does, DoesAsked, DoesEvent, LeavesShelf, Says, context, line_most, past, progress};
 ghost use Rattle.plant_text.specs.OperatorLines.{line_in};
 ghost use Rattle.server_loops.specs.OperatorSteps.{EndsAs, Goes, IsBegun, task_of, text_of};
 ghost use Rattle.server_loops.specs.Sites.{Stays};
@@ -14,11 +14,13 @@ use crate::asking::act;
 use crate::charts::Chart;
 use crate::loading::{FileLine, do_file, tell_answer};
 use crate::operating::Operated;
+use crate::shelves::Shelf;
+use crate::showing::do_show;
 use crate::texts::{write_too_large, write_words};
+use crate::writing::do_write;
 use dom_base::{As, Text};
-use dom_edge::Store;
 use plant_model::{Event, Refused};
-use plant_text::{LineError, Network, OperatorLine, read_operator_line};
+use plant_text::{LineError, Network, OperatorLine, Subject, read_operator_line};
 use std::alloc::Global;
 use std::sync::Wait;
 use ted_watch::Publisher;
@@ -115,8 +117,10 @@ enum Task {
     NoPeer,
     // serving is to end
     Stop,
-    // it is not done here
-    Nothing,
+    // a survey is told
+    Show(Subject),
+    // the current topology of an element is written into a file
+    Write(As, Text),
 }
 
 fn task_of(asked: OperatorLine) -> Task
@@ -129,12 +133,12 @@ fn task_of(asked: OperatorLine) -> Task
         OperatorLine::Shut(None) => Task::NoPeer,
         OperatorLine::Break(one, other) => Task::Make(Event::Break(one, other)),
         OperatorLine::Stop => Task::Stop,
-        OperatorLine::Show(_) => Task::Nothing,
-        OperatorLine::Write(..) => Task::Nothing,
+        OperatorLine::Show(subject) => Task::Show(subject),
+        OperatorLine::Write(at, name) => Task::Write(at, name),
     }
 }
 
-// What is said of a line that is outside the form, or that asks for what is not done here.
+// What is said of a line that is outside the form.
 fn tell_bad_line(number: u32, into: &mut Vec<u8>) -> Result<(), Operated>
     ensures told { OnOk result (into.new.items ≡ into.old.items ++ bad_line_text number) }
     ensures lack { IfErr result (λ end. end ≡ NoMemory) }
@@ -181,11 +185,12 @@ fn do_event<D: Chart>(
 }
 
 // Does what a line says.
-fn do_asked<T: Store, D: Chart, R: Wait + Drop>(
+fn do_asked<T: Shelf, D: Chart, R: Wait + Drop>(
     alloc: Global,
     desk: &mut D,
     store: &mut T,
     network: &Network,
+    run_name: &Option<Text>,
     publisher: &mut Publisher<R>,
     number: u32,
     asked: OperatorLine,
@@ -193,7 +198,8 @@ fn do_asked<T: Store, D: Chart, R: Wait + Drop>(
 ) -> Result<(), Operated>
     requires elements { AreOfElements network.now (published publisher.old) }
     requires fresh { (D.charted desk.old).spent ≡ None }
-    ensures goes { Goes (DoesAsked (context network.now (T.files store.old)) number (Some (Some asked)) (progress (D.charted desk.old) (published publisher.old) (T.faults store.old) (T.failed_at store.old)) (progress (D.charted desk.new) (published publisher.new) (T.faults store.new) (T.failed_at store.new))) result (past (D.charted desk.old) (published publisher.old)) (past (D.charted desk.new) (published publisher.new)) (D.charted desk.new).spent into.old.items into.new.items }
+    ensures goes { Goes (DoesAsked (context network.now (T.files store.old) run_name.now) number (Some (Some asked)) (progress (D.charted desk.old) (published publisher.old) (T.faults store.old) (T.failed_at store.old) (T.shelved store.old)) (progress (D.charted desk.new) (published publisher.new) (T.faults store.new) (T.failed_at store.new) (T.shelved store.new))) result (past (D.charted desk.old) (published publisher.old)) (past (D.charted desk.new) (published publisher.new)) (D.charted desk.new).spent into.old.items into.new.items }
+    ensures shelf { LeavesShelf (Some (Some asked)) (progress (D.charted desk.old) (published publisher.old) (T.faults store.old) (T.failed_at store.old) (T.shelved store.old)) (progress (D.charted desk.new) (published publisher.new) (T.faults store.new) (T.failed_at store.new) (T.shelved store.new)) }
     ensures stays { Stays D.is_at desk.old desk.new }
     ensures elements { AreOfElements network.now (published publisher.new) }
     ensures list { list_of publisher.new ≡ list_of publisher.old }
@@ -214,16 +220,18 @@ fn do_asked<T: Store, D: Chart, R: Wait + Drop>(
         Task::Stop => do_stop(desk, number, into),
         Task::Make(event) => do_event(alloc, desk, number, event, into),
         Task::NoPeer => tell_answer(alloc, number, &Err(Refused::NoSuchPeer), into),
-        Task::Nothing => tell_bad_line(number, into),
+        Task::Show(subject) => do_show(alloc, desk, network, run_name, number, subject, into),
+        Task::Write(at, name) => do_write(alloc, desk, store, number, at, name.as_str(), into),
     }
 }
 
 // Does what the text of a line asks for, and writes what is said of it.
-fn do_text<T: Store, D: Chart, R: Wait + Drop>(
+fn do_text<T: Shelf, D: Chart, R: Wait + Drop>(
     alloc: Global,
     desk: &mut D,
     store: &mut T,
     network: &Network,
+    run_name: &Option<Text>,
     publisher: &mut Publisher<R>,
     number: u32,
     text: &[u8],
@@ -231,7 +239,8 @@ fn do_text<T: Store, D: Chart, R: Wait + Drop>(
 ) -> Result<(), Operated>
     requires elements { AreOfElements network.now (published publisher.old) }
     requires fresh { (D.charted desk.old).spent ≡ None }
-    ensures goes { Goes (DoesAsked (context network.now (T.files store.old)) number (line_in network.now text.now) (progress (D.charted desk.old) (published publisher.old) (T.faults store.old) (T.failed_at store.old)) (progress (D.charted desk.new) (published publisher.new) (T.faults store.new) (T.failed_at store.new))) result (past (D.charted desk.old) (published publisher.old)) (past (D.charted desk.new) (published publisher.new)) (D.charted desk.new).spent into.old.items into.new.items }
+    ensures goes { Goes (DoesAsked (context network.now (T.files store.old) run_name.now) number (line_in network.now text.now) (progress (D.charted desk.old) (published publisher.old) (T.faults store.old) (T.failed_at store.old) (T.shelved store.old)) (progress (D.charted desk.new) (published publisher.new) (T.faults store.new) (T.failed_at store.new) (T.shelved store.new))) result (past (D.charted desk.old) (published publisher.old)) (past (D.charted desk.new) (published publisher.new)) (D.charted desk.new).spent into.old.items into.new.items }
+    ensures shelf { LeavesShelf (line_in network.now text.now) (progress (D.charted desk.old) (published publisher.old) (T.faults store.old) (T.failed_at store.old) (T.shelved store.old)) (progress (D.charted desk.new) (published publisher.new) (T.faults store.new) (T.failed_at store.new) (T.shelved store.new)) }
     ensures stays { Stays D.is_at desk.old desk.new }
     ensures elements { AreOfElements network.now (published publisher.new) }
     ensures list { list_of publisher.new ≡ list_of publisher.old }
@@ -239,7 +248,7 @@ fn do_text<T: Store, D: Chart, R: Wait + Drop>(
     ensures files { T.files store.new ≡ T.files store.old }
 {
     match read_operator_line(alloc, text, network) {
-        Ok(Some(asked)) => do_asked(alloc, desk, store, network, publisher, number, asked, into),
+        Ok(Some(asked)) => do_asked(alloc, desk, store, network, run_name, publisher, number, asked, into),
         Ok(None) => Ok(()),
         Err(LineError::Outside) => tell_bad_line(number, into),
         Err(LineError::NoMemory) => Err(Operated::NoMemory),
@@ -256,11 +265,12 @@ fn tell_too_long(number: u32, into: &mut Vec<u8>) -> Result<(), Operated>
 }
 
 /// Does what the line that was begun asks for, which ends now, and writes what is said of it.
-pub(crate) fn do_line<T: Store, D: Chart, R: Wait + Drop>(
+pub(crate) fn do_line<T: Shelf, D: Chart, R: Wait + Drop>(
     alloc: Global,
     desk: &mut D,
     store: &mut T,
     network: &Network,
+    run_name: &Option<Text>,
     publisher: &mut Publisher<R>,
     begun: &Begun,
     number: u32,
@@ -269,7 +279,8 @@ pub(crate) fn do_line<T: Store, D: Chart, R: Wait + Drop>(
 ) -> Result<(), Operated>
     requires elements { AreOfElements network.now (published publisher.old) }
     requires fresh { (D.charted desk.old).spent ≡ None }
-    ensures goes { (line : List ℕ) → IsBegun begun.now.bytes.items begun.now.is_long line → Goes (Does (context network.now (T.files store.old)) number (text_of has_end line) (progress (D.charted desk.old) (published publisher.old) (T.faults store.old) (T.failed_at store.old)) (progress (D.charted desk.new) (published publisher.new) (T.faults store.new) (T.failed_at store.new))) result (past (D.charted desk.old) (published publisher.old)) (past (D.charted desk.new) (published publisher.new)) (D.charted desk.new).spent into.old.items into.new.items }
+    ensures goes { (line : List ℕ) → IsBegun begun.now.bytes.items begun.now.is_long line → Goes (Does (context network.now (T.files store.old) run_name.now) number (text_of has_end line) (progress (D.charted desk.old) (published publisher.old) (T.faults store.old) (T.failed_at store.old) (T.shelved store.old)) (progress (D.charted desk.new) (published publisher.new) (T.faults store.new) (T.failed_at store.new) (T.shelved store.new))) result (past (D.charted desk.old) (published publisher.old)) (past (D.charted desk.new) (published publisher.new)) (D.charted desk.new).spent into.old.items into.new.items }
+    ensures shelf { (line : List ℕ) → IsBegun begun.now.bytes.items begun.now.is_long line → LeavesShelf (line_in network.now (text_of has_end line)) (progress (D.charted desk.old) (published publisher.old) (T.faults store.old) (T.failed_at store.old) (T.shelved store.old)) (progress (D.charted desk.new) (published publisher.new) (T.faults store.new) (T.failed_at store.new) (T.shelved store.new)) }
     ensures ends { EndsAs result (D.charted desk.new).spent }
     ensures stays { Stays D.is_at desk.old desk.new }
     ensures elements { AreOfElements network.now (published publisher.new) }
@@ -285,6 +296,7 @@ pub(crate) fn do_line<T: Store, D: Chart, R: Wait + Drop>(
         desk,
         store,
         network,
+        run_name,
         publisher,
         number,
         begun.text(has_end),

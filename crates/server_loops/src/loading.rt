@@ -1,5 +1,6 @@
 //! Lines that load a topology.
-ghost use Rattle.std.specs.Prelude.{◌≡◌, ◌≤◌, ◌∷◌, ◌++◌, [], ℕ, length, IfErr, Ok, OnOk, None, Some};
+ghost use Rattle.std.specs.Prelude.{◌≡◌, ◌≤◌, ◌∷◌, ◌++◌, [], ℕ, List, length, IfErr, Ok, OnOk, None, Some};
+ghost use Rattle.std.specs.declared.option.Option.{Option};
 ghost use Rattle.te_deltas.specs.ChangeText.{change_file_most, text_in};
 ghost use Rattle.ted_watch.specs.Watch.{list_of, published};
 ghost use Rattle.server_loops.specs.Charts.{Mapped};
@@ -13,9 +14,10 @@ use crate::asking::{act, ask};
 use crate::charts::Chart;
 use crate::operating::Operated;
 use crate::publishing::publish_loaded;
+use crate::shelves::Shelf;
 use crate::texts::{write_bad_network, write_too_large, write_words};
 use dom_base::{As, Bytes};
-use dom_edge::{Store, StoreError};
+use dom_edge::StoreError;
 use network_files::{FileError, changed_of, changes_of, topology_of};
 use plant_model::{Event, Outcome, Refused};
 use plant_text::Network;
@@ -97,13 +99,14 @@ fn tell_refused(line: FileLine<'_>, why: FileError, into: &mut Vec<u8>) -> Resul
 }
 
 // Reads the file that the line names. None where it is told why it was not read.
-fn read_file<T: Store>(
+fn read_file<T: Shelf>(
     alloc: Global,
     store: &mut T,
     line: FileLine<'_>,
     into: &mut Vec<u8>,
 ) -> Result<Option<Bytes>, Operated>
     ensures read { IsFile (T.files store.old) line.entry.number line.entry.name.now result (T.faults store.old) (T.faults store.new) (T.failed_at store.new) into.old.items into.new.items }
+    ensures shelf { T.shelved store.new ≡ T.shelved store.old }
     ensures later { T.faults store.old ≤ T.faults store.new }
     ensures files { T.files store.new ≡ T.files store.old }
 {
@@ -231,7 +234,7 @@ fn change_text<D: Chart, R: Wait + Drop>(
 }
 
 /// Loads what the file gives that the line names: a topology, or the current one with changes.
-pub(crate) fn do_file<T: Store, D: Chart, R: Wait + Drop>(
+pub(crate) fn do_file<T: Shelf, D: Chart, R: Wait + Drop>(
     alloc: Global,
     desk: &mut D,
     store: &mut T,
@@ -242,7 +245,8 @@ pub(crate) fn do_file<T: Store, D: Chart, R: Wait + Drop>(
 ) -> Result<(), Operated>
     requires elements { AreOfElements network.now (published publisher.old) }
     requires fresh { (D.charted desk.old).spent ≡ None }
-    ensures goes { Goes (DoesFile (context network.now (T.files store.old)) line.entry.number line.entry.is_change line.entry.at line.entry.name.now (progress (D.charted desk.old) (published publisher.old) (T.faults store.old) (T.failed_at store.old)) (progress (D.charted desk.new) (published publisher.new) (T.faults store.new) (T.failed_at store.new))) result (past (D.charted desk.old) (published publisher.old)) (past (D.charted desk.new) (published publisher.new)) (D.charted desk.new).spent into.old.items into.new.items }
+    ensures goes { (run : Option (List ℕ)) → Goes (DoesFile (context network.now (T.files store.old) run) line.entry.number line.entry.is_change line.entry.at line.entry.name.now (progress (D.charted desk.old) (published publisher.old) (T.faults store.old) (T.failed_at store.old) (T.shelved store.old)) (progress (D.charted desk.new) (published publisher.new) (T.faults store.new) (T.failed_at store.new) (T.shelved store.new))) result (past (D.charted desk.old) (published publisher.old)) (past (D.charted desk.new) (published publisher.new)) (D.charted desk.new).spent into.old.items into.new.items }
+    ensures shelf { T.shelved store.new ≡ T.shelved store.old }
     ensures stays { Stays D.is_at desk.old desk.new }
     ensures elements { AreOfElements network.now (published publisher.new) }
     ensures list { list_of publisher.new ≡ list_of publisher.old }

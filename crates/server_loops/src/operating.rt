@@ -8,9 +8,10 @@ ghost use Rattle.server_loops.specs.declared.operating.Operated.TheVariants.{Spe
 
 use crate::charts::Chart;
 use crate::lines::Begun;
+use crate::shelves::Shelf;
 use crate::taking::{end_line, take_piece};
-use dom_base::NoMemory;
-use dom_edge::{Piece, Sink, Source, Store};
+use dom_base::{NoMemory, Text};
+use dom_edge::{Piece, Sink, Source};
 use plant_text::Network;
 use std::alloc::Global;
 use std::sync::Wait;
@@ -37,18 +38,19 @@ impl From<NoMemory> for Operated {
 }
 
 // The input ended: bytes behind the last line end are a line.
-fn finish<T: Store, K: Sink, D: Chart, R: Wait + Drop>(
+fn finish<T: Shelf, K: Sink, D: Chart, R: Wait + Drop>(
     alloc: Global,
     desk: &mut D,
     store: &mut T,
     network: &Network,
+    run_name: &Option<Text>,
     publisher: &mut Publisher<R>,
     out: &mut K,
     begun: &mut Begun,
 ) -> Operated
     requires elements { AreOfElements network.now (published publisher.old) }
     requires fresh { (D.charted desk.old).spent ≡ None }
-    ensures ends { (line : List ℕ) → IsBegun begun.old.bytes.items begun.old.is_long line → Finishes (context network.now (T.files store.old)) result line begun.old.before (progress (D.charted desk.old) (published publisher.old) (T.faults store.old) (T.failed_at store.old)) (progress (D.charted desk.new) (published publisher.new) (T.faults store.new) (T.failed_at store.new)) (side (K.written out.old) (K.faults out.old)) (side (K.written out.new) (K.faults out.new)) }
+    ensures ends { (line : List ℕ) → IsBegun begun.old.bytes.items begun.old.is_long line → Finishes (context network.now (T.files store.old) run_name.now) result line begun.old.before (progress (D.charted desk.old) (published publisher.old) (T.faults store.old) (T.failed_at store.old) (T.shelved store.old)) (progress (D.charted desk.new) (published publisher.new) (T.faults store.new) (T.failed_at store.new) (T.shelved store.new)) (side (K.written out.old) (K.faults out.old)) (side (K.written out.new) (K.faults out.new)) }
     ensures leaves { Leaves result (D.charted desk.new).spent }
     ensures stays { Stays D.is_at desk.old desk.new }
     ensures elements { AreOfElements network.now (published publisher.new) }
@@ -58,18 +60,19 @@ fn finish<T: Store, K: Sink, D: Chart, R: Wait + Drop>(
     if begun.is_empty() {
         return Operated::End;
     }
-    match end_line(alloc, desk, store, network, publisher, out, begun, false) {
+    match end_line(alloc, desk, store, network, run_name, publisher, out, begun, false) {
         Ok(()) => Operated::End,
         Err(end) => end,
     }
 }
 
 // Reads once, and does the lines that end in what came.
-fn turn<T: Store, I: Source, K: Sink, D: Chart, R: Wait + Drop>(
+fn turn<T: Shelf, I: Source, K: Sink, D: Chart, R: Wait + Drop>(
     alloc: Global,
     desk: &mut D,
     store: &mut T,
     network: &Network,
+    run_name: &Option<Text>,
     publisher: &mut Publisher<R>,
     input: &mut I,
     out: &mut K,
@@ -77,9 +80,9 @@ fn turn<T: Store, I: Source, K: Sink, D: Chart, R: Wait + Drop>(
 ) -> Result<(), Operated>
     requires elements { AreOfElements network.now (published publisher.old) }
     requires fresh { (D.charted desk.old).spent ≡ None }
-    ensures turned { (line : List ℕ) → IsBegun begun.old.bytes.items begun.old.is_long line → IsTurned (context network.now (T.files store.old)) result line (begun_of begun.old.before begun.old.bytes.items begun.old.is_long) (begun_of begun.new.before begun.new.bytes.items begun.new.is_long)
-        (progress (D.charted desk.old) (published publisher.old) (T.faults store.old) (T.failed_at store.old))
-        (progress (D.charted desk.new) (published publisher.new) (T.faults store.new) (T.failed_at store.new))
+    ensures turned { (line : List ℕ) → IsBegun begun.old.bytes.items begun.old.is_long line → IsTurned (context network.now (T.files store.old) run_name.now) result line (begun_of begun.old.before begun.old.bytes.items begun.old.is_long) (begun_of begun.new.before begun.new.bytes.items begun.new.is_long)
+        (progress (D.charted desk.old) (published publisher.old) (T.faults store.old) (T.failed_at store.old) (T.shelved store.old))
+        (progress (D.charted desk.new) (published publisher.new) (T.faults store.new) (T.failed_at store.new) (T.shelved store.new))
         (sides (side (I.left input.old) (I.faults input.old)) (side (K.written out.old) (K.faults out.old)))
         (sides (side (I.left input.new) (I.faults input.new)) (side (K.written out.new) (K.faults out.new))) }
     ensures leaves { LeavesBy result (D.charted desk.new).spent }
@@ -96,23 +99,25 @@ fn turn<T: Store, I: Source, K: Sink, D: Chart, R: Wait + Drop>(
                 desk,
                 store,
                 network,
+                run_name,
                 publisher,
                 out,
                 begun,
                 &buffer[..count],
             )
         }
-        Piece::End => Err(finish(alloc, desk, store, network, publisher, out, begun)),
+        Piece::End => Err(finish(alloc, desk, store, network, run_name, publisher, out, begun)),
         Piece::Failed => Err(Operated::ReadFault),
     }
 }
 
 // All turns.
-fn run<T: Store, I: Source, K: Sink, D: Chart, R: Wait + Drop>(
+fn run<T: Shelf, I: Source, K: Sink, D: Chart, R: Wait + Drop>(
     alloc: Global,
     desk: &mut D,
     store: &mut T,
     network: &Network,
+    run_name: &Option<Text>,
     publisher: &mut Publisher<R>,
     input: &mut I,
     out: &mut K,
@@ -120,9 +125,9 @@ fn run<T: Store, I: Source, K: Sink, D: Chart, R: Wait + Drop>(
 ) -> Operated
     requires elements { AreOfElements network.now (published publisher.old) }
     requires fresh { (D.charted desk.old).spent ≡ None }
-    ensures operates { Operates (context network.now (T.files store.old)) turns result
-        (progress (D.charted desk.old) (published publisher.old) (T.faults store.old) (T.failed_at store.old))
-        (progress (D.charted desk.new) (published publisher.new) (T.faults store.new) (T.failed_at store.new))
+    ensures operates { Operates (context network.now (T.files store.old) run_name.now) turns result
+        (progress (D.charted desk.old) (published publisher.old) (T.faults store.old) (T.failed_at store.old) (T.shelved store.old))
+        (progress (D.charted desk.new) (published publisher.new) (T.faults store.new) (T.failed_at store.new) (T.shelved store.new))
         (sides (side (I.left input.old) (I.faults input.old)) (side (K.written out.old) (K.faults out.old)))
         (sides (side (I.left input.new) (I.faults input.new)) (side (K.written out.new) (K.faults out.new))) }
     ensures leaves { Leaves result (D.charted desk.new).spent }
@@ -134,7 +139,7 @@ fn run<T: Store, I: Source, K: Sink, D: Chart, R: Wait + Drop>(
     let mut begun = Begun::new(alloc);
     for _turn in 0..turns {
         match turn(
-            alloc, desk, store, network, publisher, input, out, &mut begun,
+            alloc, desk, store, network, run_name, publisher, input, out, &mut begun,
         ) {
             Ok(()) => {}
             Err(end) => return end,
@@ -144,25 +149,28 @@ fn run<T: Store, I: Source, K: Sink, D: Chart, R: Wait + Drop>(
 }
 
 /// Reads the lines of an operator and does them one after the other: `load AS FILE` loads the topology of a file, `change
-/// AS FILE` the current one with the changes of a file, and `stop` says that serving is to end. What came of each is written under its number. After a load of an
+/// AS FILE` the current one with the changes of a file, and `write AS FILE` writes the current one into a new file; `shut NAME` closes a
+/// session and `break AS AS` breaks a link; `show` tells a survey, or its rows of one peer or element, and, where `run_name` names the run of a record, how
+/// far that is; and `stop` says that serving is to end. What came of each is written under its number. After a load of an
 /// element that was accepted its current topology is shown to watchers, where it is newer. In each turn it reads once.
 ///
 /// A load for which the network has no memory is told as such, and the next line is read; so is a file that is refused. Where
 /// what is said of a line can't be written, the next line is read all the same. A chart that is spent ends it at once.
-pub fn operate<T: Store, I: Source, K: Sink, D: Chart, R: Wait + Drop>(
+pub fn operate<T: Shelf, I: Source, K: Sink, D: Chart, R: Wait + Drop>(
     alloc: Global,
     desk: &mut D,
     store: &mut T,
     network: &Network,
+    run_name: &Option<Text>,
     publisher: &mut Publisher<R>,
     input: &mut I,
     out: &mut K,
     turns: u64,
 ) -> Operated
     requires elements { AreOfElements network.now (published publisher.old) }
-    ensures operates { Operates (context network.now (T.files store.old)) turns result
-        (progress (D.charted desk.old) (published publisher.old) (T.faults store.old) (T.failed_at store.old))
-        (progress (D.charted desk.new) (published publisher.new) (T.faults store.new) (T.failed_at store.new))
+    ensures operates { Operates (context network.now (T.files store.old) run_name.now) turns result
+        (progress (D.charted desk.old) (published publisher.old) (T.faults store.old) (T.failed_at store.old) (T.shelved store.old))
+        (progress (D.charted desk.new) (published publisher.new) (T.faults store.new) (T.failed_at store.new) (T.shelved store.new))
         (sides (side (I.left input.old) (I.faults input.old)) (side (K.written out.old) (K.faults out.old)))
         (sides (side (I.left input.new) (I.faults input.new)) (side (K.written out.new) (K.faults out.new))) }
     ensures spent { (t : ℕ) → (result ≡ SpentAt t) ↔ ((D.charted desk.new).spent ≡ Some t) }
@@ -173,6 +181,6 @@ pub fn operate<T: Store, I: Source, K: Sink, D: Chart, R: Wait + Drop>(
 {
     match desk.spent() {
         Some(number) => Operated::Spent(number),
-        None => run(alloc, desk, store, network, publisher, input, out, turns),
+        None => run(alloc, desk, store, network, run_name, publisher, input, out, turns),
     }
 }

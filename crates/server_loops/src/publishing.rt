@@ -67,8 +67,8 @@ fn has_row(rows: &[ElementRow], at: As) -> bool
     rows.iter().any(|row| row.own.0 == at.0)
 }
 
-// Whether the settings have an element of this AS.
-fn is_element(network: &Network, at: As) -> bool
+/// Whether the settings have an element of this AS.
+pub(crate) fn is_element(network: &Network, at: As) -> bool
     ensures { result ≡ is_element network.now at }
 {
     has_row(network.parts().elements.as_slice(), at)

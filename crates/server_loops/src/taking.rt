@@ -8,7 +8,9 @@ ghost use Rattle.server_loops.specs.Sites.{Stays};
 use crate::charts::Chart;
 use crate::lines::{Begun, do_line};
 use crate::operating::Operated;
-use dom_edge::{Sink, Store, write_all};
+use crate::shelves::Shelf;
+use dom_base::Text;
+use dom_edge::{Sink, write_all};
 use plant_text::Network;
 use std::alloc::Global;
 use std::sync::Wait;
@@ -22,11 +24,12 @@ fn say<K: Sink>(out: &mut K, text: &[u8])
 }
 
 /// The line that was begun ends: it is done, and what is said of it is written, or that fails.
-pub(crate) fn end_line<T: Store, K: Sink, D: Chart, R: Wait + Drop>(
+pub(crate) fn end_line<T: Shelf, K: Sink, D: Chart, R: Wait + Drop>(
     alloc: Global,
     desk: &mut D,
     store: &mut T,
     network: &Network,
+    run_name: &Option<Text>,
     publisher: &mut Publisher<R>,
     out: &mut K,
     begun: &mut Begun,
@@ -34,7 +37,7 @@ pub(crate) fn end_line<T: Store, K: Sink, D: Chart, R: Wait + Drop>(
 ) -> Result<(), Operated>
     requires elements { AreOfElements network.now (published publisher.old) }
     requires fresh { (D.charted desk.old).spent ≡ None }
-    ensures ends { (line : List ℕ) → IsBegun begun.old.bytes.items begun.old.is_long line → EndsLine (context network.now (T.files store.old)) has_end line result (begun_of begun.old.before begun.old.bytes.items begun.old.is_long) (begun_of begun.new.before begun.new.bytes.items begun.new.is_long) (progress (D.charted desk.old) (published publisher.old) (T.faults store.old) (T.failed_at store.old)) (progress (D.charted desk.new) (published publisher.new) (T.faults store.new) (T.failed_at store.new)) (side (K.written out.old) (K.faults out.old)) (side (K.written out.new) (K.faults out.new)) }
+    ensures ends { (line : List ℕ) → IsBegun begun.old.bytes.items begun.old.is_long line → EndsLine (context network.now (T.files store.old) run_name.now) has_end line result (begun_of begun.old.before begun.old.bytes.items begun.old.is_long) (begun_of begun.new.before begun.new.bytes.items begun.new.is_long) (progress (D.charted desk.old) (published publisher.old) (T.faults store.old) (T.failed_at store.old) (T.shelved store.old)) (progress (D.charted desk.new) (published publisher.new) (T.faults store.new) (T.failed_at store.new) (T.shelved store.new)) (side (K.written out.old) (K.faults out.old)) (side (K.written out.new) (K.faults out.new)) }
     ensures lasts { Lasts result (D.charted desk.new).spent }
     ensures stays { Stays D.is_at desk.old desk.new }
     ensures elements { AreOfElements network.now (published publisher.new) }
@@ -46,18 +49,19 @@ pub(crate) fn end_line<T: Store, K: Sink, D: Chart, R: Wait + Drop>(
     };
     let mut text = Vec::new(alloc);
     do_line(
-        alloc, desk, store, network, publisher, begun, number, has_end, &mut text,
+        alloc, desk, store, network, run_name, publisher, begun, number, has_end, &mut text,
     )?;
     say(out, &text);
     begun.clear(number);
     Ok(())
 }
 
-fn take_byte<T: Store, K: Sink, D: Chart, R: Wait + Drop>(
+fn take_byte<T: Shelf, K: Sink, D: Chart, R: Wait + Drop>(
     alloc: Global,
     desk: &mut D,
     store: &mut T,
     network: &Network,
+    run_name: &Option<Text>,
     publisher: &mut Publisher<R>,
     out: &mut K,
     begun: &mut Begun,
@@ -65,7 +69,7 @@ fn take_byte<T: Store, K: Sink, D: Chart, R: Wait + Drop>(
 ) -> Result<(), Operated>
     requires elements { AreOfElements network.now (published publisher.old) }
     requires fresh { (D.charted desk.old).spent ≡ None }
-    ensures feeds { (line : List ℕ) → IsBegun begun.old.bytes.items begun.old.is_long line → Feeds (context network.now (T.files store.old)) (byte ∷ []) result line (begun_of begun.old.before begun.old.bytes.items begun.old.is_long) (begun_of begun.new.before begun.new.bytes.items begun.new.is_long) (progress (D.charted desk.old) (published publisher.old) (T.faults store.old) (T.failed_at store.old)) (progress (D.charted desk.new) (published publisher.new) (T.faults store.new) (T.failed_at store.new)) (side (K.written out.old) (K.faults out.old)) (side (K.written out.new) (K.faults out.new)) }
+    ensures feeds { (line : List ℕ) → IsBegun begun.old.bytes.items begun.old.is_long line → Feeds (context network.now (T.files store.old) run_name.now) (byte ∷ []) result line (begun_of begun.old.before begun.old.bytes.items begun.old.is_long) (begun_of begun.new.before begun.new.bytes.items begun.new.is_long) (progress (D.charted desk.old) (published publisher.old) (T.faults store.old) (T.failed_at store.old) (T.shelved store.old)) (progress (D.charted desk.new) (published publisher.new) (T.faults store.new) (T.failed_at store.new) (T.shelved store.new)) (side (K.written out.old) (K.faults out.old)) (side (K.written out.new) (K.faults out.new)) }
     ensures lasts { Lasts result (D.charted desk.new).spent }
     ensures stays { Stays D.is_at desk.old desk.new }
     ensures elements { AreOfElements network.now (published publisher.new) }
@@ -73,18 +77,19 @@ fn take_byte<T: Store, K: Sink, D: Chart, R: Wait + Drop>(
     ensures files { T.files store.new ≡ T.files store.old }
 {
     if byte == b'\n' {
-        end_line(alloc, desk, store, network, publisher, out, begun, true)
+        end_line(alloc, desk, store, network, run_name, publisher, out, begun, true)
     } else {
         begun.push(byte)
     }
 }
 
 /// Takes the bytes of a piece, one after the other, behind those of the line that was begun.
-pub(crate) fn take_piece<T: Store, K: Sink, D: Chart, R: Wait + Drop>(
+pub(crate) fn take_piece<T: Shelf, K: Sink, D: Chart, R: Wait + Drop>(
     alloc: Global,
     desk: &mut D,
     store: &mut T,
     network: &Network,
+    run_name: &Option<Text>,
     publisher: &mut Publisher<R>,
     out: &mut K,
     begun: &mut Begun,
@@ -92,7 +97,7 @@ pub(crate) fn take_piece<T: Store, K: Sink, D: Chart, R: Wait + Drop>(
 ) -> Result<(), Operated>
     requires elements { AreOfElements network.now (published publisher.old) }
     requires fresh { (D.charted desk.old).spent ≡ None }
-    ensures feeds { (line : List ℕ) → IsBegun begun.old.bytes.items begun.old.is_long line → Feeds (context network.now (T.files store.old)) piece.now result line (begun_of begun.old.before begun.old.bytes.items begun.old.is_long) (begun_of begun.new.before begun.new.bytes.items begun.new.is_long) (progress (D.charted desk.old) (published publisher.old) (T.faults store.old) (T.failed_at store.old)) (progress (D.charted desk.new) (published publisher.new) (T.faults store.new) (T.failed_at store.new)) (side (K.written out.old) (K.faults out.old)) (side (K.written out.new) (K.faults out.new)) }
+    ensures feeds { (line : List ℕ) → IsBegun begun.old.bytes.items begun.old.is_long line → Feeds (context network.now (T.files store.old) run_name.now) piece.now result line (begun_of begun.old.before begun.old.bytes.items begun.old.is_long) (begun_of begun.new.before begun.new.bytes.items begun.new.is_long) (progress (D.charted desk.old) (published publisher.old) (T.faults store.old) (T.failed_at store.old) (T.shelved store.old)) (progress (D.charted desk.new) (published publisher.new) (T.faults store.new) (T.failed_at store.new) (T.shelved store.new)) (side (K.written out.old) (K.faults out.old)) (side (K.written out.new) (K.faults out.new)) }
     ensures lasts { Lasts result (D.charted desk.new).spent }
     ensures stays { Stays D.is_at desk.old desk.new }
     ensures elements { AreOfElements network.now (published publisher.new) }
@@ -100,7 +105,7 @@ pub(crate) fn take_piece<T: Store, K: Sink, D: Chart, R: Wait + Drop>(
     ensures files { T.files store.new ≡ T.files store.old }
 {
     for byte in piece {
-        take_byte(alloc, desk, store, network, publisher, out, begun, *byte)?;
+        take_byte(alloc, desk, store, network, run_name, publisher, out, begun, *byte)?;
     }
     Ok(())
 }

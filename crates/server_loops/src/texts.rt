@@ -26,6 +26,21 @@ pub(crate) fn write_words(number: u32, words: &[u8], into: &mut Vec<u8>) -> Resu
     Ok(())
 }
 
+/// These words, and a name behind them.
+pub(crate) fn write_named(
+    number: u32,
+    words: &[u8],
+    name: &[u8],
+    into: &mut Vec<u8>,
+) -> Result<(), NoMemory>
+    ensures { OnOk result (into.new.items ≡ into.old.items ++ numbered number (words.now ++ name.now)) }
+{
+    write_head(number, words, into)?;
+    into.extend_from_slice(name)?;
+    into.push(b'\n')?;
+    Ok(())
+}
+
 /// The line, which is `input`, or the file that it names is above its limit.
 pub(crate) fn write_too_large(number: u32, name: &[u8], into: &mut Vec<u8>) -> Result<(), NoMemory>
     ensures { OnOk result (into.new.items ≡ into.old.items ++ too_large_text number name.now) }

@@ -1,5 +1,5 @@
 -- What is told of an outside peer.
-use Rattle.std.specs.Prelude.{ℕ, List, [], ◌∷◌, ◌++◌, codes, decimal, flat_map, slice_get, zip, Option, Some, None}
+use Rattle.std.specs.Prelude.{ℕ, List, [], ◌∷◌, ◌++◌, codes, decimal, flat_map, slice_get, zip, Option, Some}
 use Rattle.dom_base.specs.declared.names.Tick.{Tick}
 use Rattle.plant_text.specs.declared.settings.PeerRow.{PeerRow}
 use Rattle.survey_figures.specs.declared.counts.AnswerCounts.{AnswerCounts}

@@ -6,9 +6,9 @@ ghost use Rattle.ted_watch.specs.Watch.{published};
 use crate::script::Script;
 use crate::turns::open;
 use dom_base::{As, Bytes, List, Text, read_number};
-use dom_edge::{MemorySink, MemorySource, MemoryStore};
+use dom_edge::{MemoryFolder, MemorySink, MemorySource, MemoryStore};
 use plant_text::{Network, read_network};
-use server_loops::{Chart, Operated, operate};
+use server_loops::{Chart, FileShelf, Operated, operate};
 use std::alloc::Global;
 use std::sync::Wait;
 use std::test::Fail;
@@ -43,7 +43,12 @@ load 2 d2.txt^;load 2 d2.txt^|9|9|1 ok generation 1;2 read fault;|end|1
 load 5 d5.txt;tick 1;load 2 bad.txt;load 2 big.txt;load 2|9|9|1 refused no such peer;2 bad line;3 bad network bad.txt 1 no header;4 too large big.txt;5 bad line;|end|-
 change 2 more.txt;load 2 d2.txt;change 2 more.txt;change 2 more.txt|9|9|1 refused no such peer;2 ok generation 1;3 ok generation 2;4 bad network more.txt 1 present;|end|2
 load 2 d2.txt;change 2 none.txt;change 2 bad.txt;change 7 more.txt|9|9|1 ok generation 1;2 bad network none.txt 1 absent;3 bad network bad.txt 2 syntax;4 refused no such peer;|end|1
-stop;show;show 2;shut zz;write 2 d2.txt;receive zz 00;take zz|0|9|1 ok;2 bad line;3 bad line;4 refused no such peer;5 bad line;6 bad line;7 bad line;|end|-
+stop;shut zz;show zz;show 3;receive zz 00;take zz|0|9|1 ok;2 refused no such peer;3 refused no such peer;4 refused no such peer;5 bad line;6 bad line;|end|-
+load 2 d2.txt;show|3|9|1 ok generation 1;2 clock 60;2 element 1 generation 0 live 1 nodes 0 links 0 requests 0 pending 0 ready 0 keys 0 free 8192;2 element 2 generation 1 live 1 nodes 0 links 0 requests 0 pending 0 ready 0 keys 0 free 8192;2 record r1 lines 5 behind 1;2 ok;|end|1
+show 2;show 1 2|1|9|1 element 2 generation 0 live 1 nodes 0 links 0 requests 0 pending 0 ready 0 keys 0 free 8192;1 ok;2 bad line;|end|-
+show;|0|9||spent|-
+load 2 d2.txt;write 2 new.txt;write 2 new.txt;write 2 old.txt;write 2 part.txt;write 2 a/b;write 1 c.txt|9|9|1 ok generation 1;2 ok;3 no new file new.txt;4 no new file old.txt;5 write fault part.txt;6 bad name a/b;7 refused no such peer;|end|1
+load 2 d2.txt;write 2 new.txt;|2|9|1 ok generation 1;|spent|1
 break 1 2;load 2 d2.txt|0|9||spent|-
 jump;load 2 d2.txt;jump|0|9|1 bad line;|spent|-
 load 2 d2.txt;|1|9||spent|-
@@ -128,12 +133,31 @@ struct Case<'a> {
     write: Option<u64>,
 }
 
-// What was written, how it ended, and which generation of AS 2 is published.
+// What was written, how it ended, which generation of AS 2 is published, and what stands in the file that was made first.
 #[derive(Drop)]
 struct Told {
     text: Vec<u8>,
     end: Operated,
     last: Option<u64>,
+    kept: Vec<u8>,
+}
+
+// A folder with one file. Of the files that are made the second can't be written.
+fn folder(alloc: Global) -> Option<MemoryFolder> {
+    let mut names = List::new(alloc);
+    names.push(Text::copy_of(alloc, "old.txt").ok()?).ok()?;
+    let mut plans = List::new(alloc);
+    plans.push(List::new(alloc)).ok()?;
+    plans.push(numbers(alloc, Some(0))?).ok()?;
+    Some(MemoryFolder::new(alloc, names, plans, List::new(alloc)))
+}
+
+// What stands in the file that was closed first.
+fn first_of(alloc: Global, folder: &MemoryFolder) -> Option<Vec<u8>> {
+    match folder.closed().first() {
+        Some((_name, bytes)) => bytes.as_slice().to_vec(alloc).ok(),
+        None => Some(Vec::new(alloc)),
+    }
 }
 
 // The call has no clause, so that what follows does not carry its contract.
@@ -146,17 +170,19 @@ fn run<D: Chart, R: Wait + Drop>(
 ) -> Option<Told>
     requires { published publisher.old ≡ [] }
 {
-    let mut store = store(alloc, case.input)?;
+    let mut shelf = FileShelf::new(store(alloc, case.input)?, folder(alloc)?);
+    let run_name = Some(Text::copy_of(alloc, "r1").ok()?);
     let bytes = Bytes::from_vec(case.input.to_vec(alloc).ok()?);
     let mut input = MemorySource::new(bytes, numbers(alloc, case.read)?);
     let mut out = MemorySink::new(alloc, numbers(alloc, case.write)?);
     let end = operate(
-        alloc, desk, &mut store, network, publisher, &mut input, &mut out, case.turns,
+        alloc, desk, &mut shelf, network, &run_name, publisher, &mut input, &mut out, case.turns,
     );
     Some(Told {
         text: out.bytes().to_vec(alloc).ok()?,
         end,
         last: publisher.last(As(2)),
+        kept: first_of(alloc, shelf.folder())?,
     })
 }
 
@@ -244,6 +270,26 @@ fn each_input_is_answered_as_its_row_says(rt: HostRuntime) -> Result<(), Fail> {
             );
         }
     }
+    Ok(())
+}
+
+#[test]
+fn a_topology_is_written(rt: HostRuntime) -> Result<(), Fail> {
+    let case = Case {
+        input: b"load 2 d2.txt\nchange 2 more.txt\nwrite 2 new.txt\n",
+        calls: 9,
+        turns: 9,
+        read: None,
+        write: None,
+    };
+    let told = told_of(&rt, rt.alloc(), case).ok_or("memory")?;
+    let want = b"topology 2
+node 10.2.0.1
+node 10.2.0.2
+node 10.2.0.3
+link 10.2.0.1 10.2.0.2 10.21.0.1 10.21.0.2 1 1 1000 00000000
+";
+    assert_eq!(rt; told.kept.as_slice(), want.as_slice());
     Ok(())
 }
 

@@ -2,12 +2,15 @@
 ghost use Rattle.std.specs.Prelude.{◌≡◌, ◌<◌, ◌++◌, ◌∷◌, [], None, Some, true, if◌then◌else◌, vec_len};
 ghost use Rattle.std.specs.Vec.{vec_capacity};
 
-use dom_base::{As, NoMemory};
+use dom_base::{As, List, NoMemory, Tick};
 use server_loops::model::{Event, Outcome, Refused};
 use server_loops::{Chart, DeskRefused, Sited};
 use std::alloc::Global;
 use std::snapshot::Snapshot;
 use std::sync::Arc;
+use survey_figures::{
+    CountFigures, ElementSurvey, Survey, Surveyed, TapeFigures, TopologySurvey,
+};
 use te_links::Topology;
 
 // The element.
@@ -21,17 +24,18 @@ const SPENT: u64 = 7;
 enum Note {
     Made(Snapshot<Event>, Snapshot<Result<Outcome, Refused>>),
     Asked(As, Snapshot<Result<Option<(u64, Arc<Topology>)>, NoMemory>>),
+    Saw(Snapshot<Surveyed>),
 }
 
 // The current topology, and its number.
 #[derive(Drop)]
-struct Shelf {
+struct Held {
     alloc: Global,
     generation: u64,
     current: Option<Arc<Topology>>,
 }
 
-impl Shelf {
+impl Held {
     fn load(&mut self, event: Event) -> Result<Outcome, Refused> {
         let Event::Load(at, topology) = event else {
             return Err(Refused::NoSuchJob);
@@ -58,12 +62,53 @@ impl Shelf {
             _ => Ok(None),
         }
     }
+
+    // Of two elements: one that nothing is told of, and that of AS 2.
+    fn survey(&self) -> Result<Surveyed, NoMemory> {
+        let mut elements = List::new(self.alloc);
+        elements.push(told_of(0))?;
+        elements.push(told_of(self.generation))?;
+        Ok(Surveyed {
+            survey: Survey {
+                clock: Tick(60),
+                peers: List::new(self.alloc),
+                elements,
+                links: List::new(self.alloc),
+                parent: None,
+            },
+            counts: CountFigures {
+                peers: List::new(self.alloc),
+                links: List::new(self.alloc),
+            },
+            tape: TapeFigures {
+                lines: 5,
+                behind: 1,
+                ended: false,
+            },
+        })
+    }
+}
+
+fn told_of(generation: u64) -> ElementSurvey {
+    ElementSurvey {
+        topology: TopologySurvey {
+            generation,
+            nodes: 0,
+            links: 0,
+        },
+        live: 1,
+        requests: 0,
+        pending: 0,
+        ready: 0,
+        keys: 0,
+        free: 8192,
+    }
 }
 
 /// The chart. Without memory for a note it is spent.
 #[derive(Drop)]
 pub struct Script {
-    shelf: Shelf,
+    held: Held,
     left: u64,
     spent_at: Option<u64>,
     notes: Vec<Note>,
@@ -75,7 +120,7 @@ impl Script {
         ensures { result.spent_at ≡ None }
     {
         Script {
-            shelf: Shelf {
+            held: Held {
                 alloc,
                 generation: 0,
                 current: None,
@@ -120,10 +165,10 @@ impl Sited for Script {
 impl Chart for Script {
     ghost use Rattle.std.specs.Prelude.{map};
     ghost use Rattle.std.specs.Arc.{arc_value};
-    ghost use Rattle.server_loops.specs.Charts.{Did, Mapped, current_of};
-    ghost use Rattle.worked_parts.specs.declared.script.Note.TheVariants.{Asked, Made};
+    ghost use Rattle.server_loops.specs.Charts.{Did, Mapped, Saw as SawSo, current_of};
+    ghost use Rattle.worked_parts.specs.declared.script.Note.TheVariants.{Asked, Made, Saw};
 
-    ghost charted = { λ d. record { calls = map (λ n. elim n [ Made event answer ↦ Did event.value answer.value | Asked at answer ↦ Mapped at (current_of arc_value answer.value) ]) d.notes.items; spent = d.spent_at } };
+    ghost charted = { λ d. record { calls = map (λ n. elim n [ Made event answer ↦ Did event.value answer.value | Asked at answer ↦ Mapped at (current_of arc_value answer.value) | Saw seen ↦ SawSo seen.value ]) d.notes.items; spent = d.spent_at } };
 
     fn act(&mut self, event: Event) -> Result<Outcome, DeskRefused> {
         if let Some(number) = self.spent_at {
@@ -133,7 +178,7 @@ impl Chart for Script {
             return Err(DeskRefused::Spent(SPENT));
         }
         let made = Snapshot::of(&event);
-        let answer = self.shelf.load(event);
+        let answer = self.held.load(event);
         self.note(Note::Made(made, Snapshot::of(&answer)));
         match answer {
             Ok(outcome) => Ok(outcome),
@@ -145,9 +190,25 @@ impl Chart for Script {
         if self.spent_at.is_some() || !self.goes_on() {
             return Ok(None);
         }
-        let answer = self.shelf.find(at);
+        let answer = self.held.find(at);
         self.note(Note::Asked(at, Snapshot::of(&answer)));
         answer
+    }
+
+    fn survey(&mut self) -> Result<Result<Surveyed, NoMemory>, u64> {
+        if let Some(number) = self.spent_at {
+            return Err(number);
+        }
+        if !self.goes_on() {
+            return Err(SPENT);
+        }
+        match self.held.survey() {
+            Ok(surveyed) => {
+                self.note(Note::Saw(Snapshot::of(&surveyed)));
+                Ok(Ok(surveyed))
+            }
+            Err(lack) => Ok(Err(lack)),
+        }
     }
 
     fn halt(&mut self) -> Result<(), u64> {

@@ -4,7 +4,9 @@ use dom_edge::{
     MemoryCalendar, MemoryClock, MemoryFolder, MemoryListener, MemoryPorts, MemorySink,
     MemorySource, MemoryStore,
 };
-use network_serving::{Duty, MemorySpawner, Recording, Scraping, Served, Spawner, serve};
+use network_serving::{
+    Duty, FileShelf, MemorySpawner, Recording, Scraping, Served, Spawner, serve,
+};
 use std::alloc::Global;
 use std::sync::Wait;
 use std::test::Fail;
@@ -150,6 +152,12 @@ fn store(alloc: Global, settings: &[u8]) -> Result<MemoryStore, Fail> {
     Ok(MemoryStore::new(alloc, List::from_vec(files), List::new(alloc)))
 }
 
+// The same files, and an empty folder for new ones.
+fn shelf(alloc: Global, settings: &[u8]) -> Result<FileShelf<MemoryStore, MemoryFolder>, Fail> {
+    let folder = MemoryFolder::new(alloc, List::new(alloc), List::new(alloc), List::new(alloc));
+    Ok(FileShelf::new(store(alloc, settings)?, folder))
+}
+
 fn ports(alloc: Global, fails: List<u64>) -> Result<MemoryPorts, Fail> {
     let mut listeners = List::new(alloc);
     for _port in 0..10u32 {
@@ -229,7 +237,7 @@ where
         &mut ports(alloc, only(alloc, port)?)?,
         &mut spawner,
         &mut MemoryClock::new(List::from_vec(vec![in alloc; Tick(1), Tick(3)]?)),
-        store(alloc, settings)?,
+        shelf(alloc, settings)?,
         MemorySource::new(List::new(alloc), List::new(alloc)),
         MemorySink::new(alloc, List::new(alloc)),
         &mut log,

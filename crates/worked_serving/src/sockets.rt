@@ -3,7 +3,7 @@ use dom_base::{Bytes, List, Text};
 use dom_edge::{
     MemoryCalendar, MemoryFolder, MemorySink, MemorySource, MemoryStore, SocketPorts, WallClock,
 };
-use network_serving::{Recording, Served, Spawner, ThreadSpawner, serve};
+use network_serving::{FileShelf, Recording, Served, Spawner, ThreadSpawner, serve};
 use std::alloc::Global;
 use std::io::{Read, Write};
 use std::net::{IpAddr, Ipv4Addr, TcpListener, TcpStream};
@@ -58,6 +58,12 @@ fn store(alloc: Global, ports: [u16; 2]) -> Result<MemoryStore, Fail> {
         (Text::copy_of(alloc, "one.txt")?, topology),
     ]?;
     Ok(MemoryStore::new(alloc, List::from_vec(files), List::new(alloc)))
+}
+
+// The same files, and an empty folder for new ones.
+fn shelf(alloc: Global, ports: [u16; 2]) -> Result<FileShelf<MemoryStore, MemoryFolder>, Fail> {
+    let folder = MemoryFolder::new(alloc, List::new(alloc), List::new(alloc), List::new(alloc));
+    Ok(FileShelf::new(store(alloc, ports)?, folder))
 }
 
 // A client at that port, which comes once somebody listens and opens its session. It waits half as long for an answer as a session
@@ -117,7 +123,7 @@ fn each_client_is_answered(rt: HostRuntime) -> Result<(), Fail> {
         &mut SocketPorts::new(rt, alloc, IpAddr::V4(Ipv4Addr::LOCALHOST)),
         &mut spawner,
         &mut WallClock::new(rt),
-        store(alloc, ports)?,
+        shelf(alloc, ports)?,
         MemorySource::new(List::new(alloc), List::new(alloc)),
         MemorySink::new(alloc, List::new(alloc)),
         &mut MemorySink::new(alloc, List::new(alloc)),
