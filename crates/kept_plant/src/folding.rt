@@ -78,7 +78,7 @@ fn begin(alloc: Global, tape: &Tape, act: &Act) -> Begun
 }
 
 // Whether nothing was handed out.
-fn is_idle(outcome: &Outcome) -> bool
+pub(crate) fn is_idle(outcome: &Outcome) -> bool
     ensures { result ≡ is_idle outcome.now }
 {
     match outcome {

@@ -7,6 +7,7 @@ use Rattle.atomic_table.specs.Seated.{TableId}
 use Rattle.plant_lock.specs.declared.view.View.{View}
 use Rattle.plant_lock.specs.History.{StartsWith, entries_at, replay}
 use Rattle.plant_lock.specs.Views.{Adds, LegalFrom, opened}
+use Rattle.plant_lock.proofs.Lists.{legal_front}
 use Rattle.plant_lock.proofs.Turns.{last_allowed}
 use Rattle.event_tape.specs.Tapes.{Taped}
 use Rattle.event_tape.specs.declared.tape.Handed.{Handed as HandedOut}
@@ -15,18 +16,22 @@ use Rattle.plant_network.specs.Topologies.{whole}
 use Rattle.plant_network.specs.Turns.{Admits, Allowed, left_by}
 use Rattle.plant_network.specs.declared.acts.Act.{Act}
 use Rattle.plant_network.specs.declared.acts.ActAnswer.{ActAnswer}
-use Rattle.kept_plant.specs.Histories.{turn_of, turns_of}
+use Rattle.kept_plant.specs.Histories.{KeptLegal, turn_of, turns_of}
 use Rattle.kept_plant.specs.TurnLaws.{kept_legal}
 use Rattle.kept_plant.specs.Turns.{Kept, KeptAdmits, KeptAllows, kept_after, kept_of}
 use Rattle.kept_plant.specs.declared.acts.KeptAct.{KeptAct}
-use Rattle.kept_plant.specs.declared.acts.KeptAct.TheVariants.{Turn, Hand, Stop}
+use Rattle.kept_plant.specs.declared.acts.KeptAct.TheVariants.{Turn, Hand, Stop, Survey}
 use Rattle.kept_plant.specs.declared.acts.KeptAnswer.{KeptAnswer}
-use Rattle.kept_plant.specs.declared.acts.KeptAnswer.TheVariants.{Turned, Handed, Stopped}
+use Rattle.kept_plant.specs.declared.acts.KeptAnswer.TheVariants.{Turned, Handed, Stopped, Surveyed}
 use Rattle.kept_plant.specs.declared.kept.KeptPlant.{KeptPlant}
+use Rattle.kept_plant.proofs.Countings.{told_counts}
+use Rattle.plant_network.specs.plant_model.Types.{NoMemory}
+use Rattle.survey_figures.specs.declared.surveyed.Surveyed.{Surveyed as SurveyedSo}
 use Rattle.turn_desk.specs.Desks.{IsStill, Makes, Rests, stand_on}
 use Rattle.turn_desk.specs.Histories.{plant_at}
 use Rattle.turn_desk.specs.Seats.{Enters, IsEntry, IsTurned, IsTurnedAs, Keeps, Seated}
 use Rattle.turn_desk.specs.Opened.{HasTape, IsOpenedSo}
+use Rattle.turn_desk.specs.Surveying.{BeginsToCount, CountsNothing, IsSurvey, TellsState}
 use Rattle.turn_desk.proofs.Turning.{rests_still}
 
 abbrev Entries : Type 0
@@ -36,7 +41,7 @@ Entries = List (KeptAct × KeptAnswer)
 
 module _ (s : Kept) where
   is_turned : (act : Act) (r : KeptAnswer) → KeptAllows s (Turn act) r → IsTurned r
-  is_turned act (Turned t tape) allows = tt
+  is_turned act (Turned t tape counts) allows = tt
   is_turned act r allows = absurd allows
 
   is_handed : (empty : List Told) (r : KeptAnswer) → KeptAllows s (Hand empty) r → (h : HandedOut) × (r ≡ Handed h)
@@ -46,6 +51,10 @@ module _ (s : Kept) where
   is_stopped : (r : KeptAnswer) → KeptAllows s Stop r → r ≡ Stopped
   is_stopped Stopped allows = refl
   is_stopped r allows = absurd allows
+
+  is_surveyed : (r : KeptAnswer) → KeptAllows s Survey r → (x : Result SurveyedSo NoMemory) × (r ≡ Surveyed x)
+  is_surveyed (Surveyed x) allows = (x, refl)
+  is_surveyed r allows = absurd allows
 
 -- an entry of a seat
 pub seat_enters : (v w : View KeptPlant KeptAct KeptAnswer) (act : KeptAct) (n : ℕ) (r : KeptAnswer) → Adds kept_of KeptAdmits KeptAllows kept_after v act n r w → (lock at : TableId) (own owned : Entries) (spent : Option ℕ) → at ≡ lock → spent ≡ None →
@@ -78,6 +87,23 @@ module _ (old new : Seated) where
   pub stop_is_stopped : (r : KeptAnswer) → Enters old new Stop r → Enters old new Stop Stopped
   stop_is_stopped r e = let a = allowed old new Stop r e in subst (λ (x : KeptAnswer). Enters old new Stop x) (is_stopped a.0 r a.1) e
 
+  pub survey_is_surveyed : (r : KeptAnswer) → Enters old new Survey r → (x : Result SurveyedSo NoMemory) × (r ≡ Surveyed x)
+  survey_is_surveyed r e = let a = allowed old new Survey r e in is_surveyed a.0 r a.1
+
+  -- a survey was read from what the turns before it left
+  pub survey_tells : (x : SurveyedSo) → Enters old new Survey (Surveyed (Ok x)) → TellsState new x
+  survey_tells x e =
+      let legal = subst (λ (h : Entries). LegalFrom kept_of KeptAdmits KeptAllows kept_after new.start h) e.seen e.legal in
+      let a = last_allowed kept_of KeptAdmits KeptAllows kept_after new.start e.before Survey (Surveyed (Ok x)) legal in
+      let whole : Entries = e.before ++ (Survey, Surveyed (Ok x)) ∷ [] in
+      let from : KeptLegal (kept_of a.0) whole = subst (λ (o : Option KeptPlant). LegalFrom kept_of KeptAdmits KeptAllows kept_after o whole) a.1 legal in
+      let before : KeptLegal (kept_of a.0) e.before = legal_front KeptAdmits KeptAllows kept_after (kept_of a.0) e.before ((Survey, Surveyed (Ok x)) ∷ []) from in
+      (a.0, a.1, record { before = e.before; is = e.seen; told = a.3; counts = λ none. told_counts (kept_of a.0) e.before [] none before })
+
+  pub surveyed_so : (answer : Result SurveyedSo NoMemory) → Enters old new Survey (Surveyed answer) → IsSurvey (Ok answer) old new
+  surveyed_so (Ok x) e = (e, survey_tells x e)
+  surveyed_so (Err none) e = (e, tt)
+
 -- the first desk at a lock
 pub opened_so : (d : Seated) (lock : TableId) (v : View KeptPlant KeptAct KeptAnswer) (k : KeptPlant) (n : ℕ) (tape : Taped) → v ≡ opened k n → k.tape ≡ tape →
     d ≡ record { lock = lock; start = v.start; seen = v.seen; own = entries_at v.seen v.places; met = v.met; spent = None } → IsOpenedSo tape d
@@ -85,13 +111,20 @@ opened_so d lock v k n tape is same at =
     let start : HasTape tape v.start = subst (HasTape tape) (sym (ap (λ (x : View KeptPlant KeptAct KeptAnswer). x.start) is)) same in
     subst (IsOpenedSo tape) (sym at) (start, ap (λ (x : View KeptPlant KeptAct KeptAnswer). x.seen) is, ap (λ (x : View KeptPlant KeptAct KeptAnswer). entries_at x.seen x.places) is, refl)
 
+-- nothing was counted before
+pub begins_to_count : (d : Seated) (lock : TableId) (v : View KeptPlant KeptAct KeptAnswer) (k : KeptPlant) (n : ℕ) → v ≡ opened k n → CountsNothing k →
+    d ≡ record { lock = lock; start = v.start; seen = v.seen; own = entries_at v.seen v.places; met = v.met; spent = None } → BeginsToCount d.start
+begins_to_count d lock v k n is none at =
+    let start : BeginsToCount v.start = subst BeginsToCount (sym (ap (λ (x : View KeptPlant KeptAct KeptAnswer). x.start) is)) none in
+    subst (λ (s : Seated). BeginsToCount s.start) (sym at) start
+
 -- ---- histories
 
 turns_append : (xs ys : Entries) → turns_of (xs ++ ys) ≡ turns_of xs ++ turns_of ys
 turns_append xs ys = filter_map-append (λ (e : KeptAct × KeptAnswer). turn_of e.0 e.1) xs ys
 
 turn_behind : (xs : Entries) (act : Act) (r : KeptAnswer) (turn : ActAnswer) → IsTurnedAs r turn → turns_of (xs ++ (Turn act, r) ∷ []) ≡ turns_of xs ++ (act, turn) ∷ []
-turn_behind xs act (Turned t tape) turn is = turns_append xs ((Turn act, Turned t tape) ∷ []) ∙ ap (λ (x : ActAnswer). turns_of xs ++ (act, x) ∷ []) (sym is)
+turn_behind xs act (Turned t tape counts) turn is = turns_append xs ((Turn act, Turned t tape counts) ∷ []) ∙ ap (λ (x : ActAnswer). turns_of xs ++ (act, x) ∷ []) (sym is)
 turn_behind xs act r turn is = absurd is
 
 no_turn_behind : (xs : Entries) (act : KeptAct) (r : KeptAnswer) → turn_of act r ≡ None → turns_of (xs ++ (act, r) ∷ []) ≡ turns_of xs
