@@ -39,11 +39,7 @@ impl Turned for KeptPlant {
                     &mut self.counts,
                     act,
                 );
-                KeptAnswer::Turned(
-                    turn,
-                    Snapshot::of(&self.tape),
-                    Snapshot::of(&self.counts),
-                )
+                KeptAnswer::Turned(turn, Snapshot::of(&self.tape), Snapshot::of(&self.counts))
             }
             KeptAct::Hand(empty) => KeptAnswer::Handed(self.tape.hand(empty)),
             KeptAct::Stop => {

@@ -8,15 +8,15 @@ ghost use Rattle.plant_network.specs.plant_model.Types.{Outside};
 ghost use Rattle.plant_survey.specs.Phases.{both, stage_at};
 ghost use Rattle.plant_survey.specs.Surveys.{element_of, figures_of, link_of, no_figures, parent_in, peer_of, peers_from, survey_of};
 
-use survey_figures::{
-    ElementSurvey, LinkSurvey, ParentSurvey, PeerSurvey, Stage, Survey, TopologySurvey,
-};
 use dom_base::{As, List, NoMemory, Peer, Tick};
 use path_keys::KEYS_MAX;
 use pcep_session::{Phase, Session};
 use plant_network::{Element, Plant, Topologies, Traffic};
 use plant_text::{ElementRow, PeerRow};
 use std::alloc::Global;
+use survey_figures::{
+    ElementSurvey, LinkSurvey, ParentSurvey, PeerSurvey, Stage, Survey, TopologySurvey,
+};
 
 // ---- sessions
 
