@@ -27,6 +27,8 @@ use Rattle.kept_plant.specs.declared.kept.KeptPlant.{KeptPlant}
 use Rattle.kept_plant.proofs.Countings.{told_counts}
 use Rattle.plant_network.specs.plant_model.Types.{NoMemory}
 use Rattle.survey_figures.specs.declared.surveyed.Surveyed.{Surveyed as SurveyedSo}
+use Rattle.server_loops.specs.Charts.{Call}
+use Rattle.turn_desk.specs.ChartCalls.{chart_call, chart_calls, chart_entry}
 use Rattle.turn_desk.specs.Desks.{IsStill, Makes, Rests, stand_on}
 use Rattle.turn_desk.specs.Histories.{plant_at}
 use Rattle.turn_desk.specs.Seats.{Enters, IsEntry, IsTurned, IsTurnedAs, Keeps, Seated}
@@ -131,6 +133,18 @@ no_turn_behind : (xs : Entries) (act : KeptAct) (r : KeptAnswer) → turn_of act
 no_turn_behind xs act r none =
     turns_append xs ((act, r) ∷ []) ∙ ap (λ (l : List (Act × ActAnswer)). turns_of xs ++ l) (ap (λ (o : Option (Act × ActAnswer)). cons_option o []) none) ∙ append-nil (turns_of xs)
 
+charts_append : (xs ys : Entries) → chart_calls (xs ++ ys) ≡ chart_calls xs ++ chart_calls ys
+charts_append xs ys = filter_map-append (λ (e : KeptAct × KeptAnswer). chart_entry e.0 e.1) xs ys
+
+chart_behind : (xs : Entries) (act : Act) (r : KeptAnswer) (turn : ActAnswer) → IsTurnedAs r turn → chart_calls (xs ++ (Turn act, r) ∷ []) ≡ chart_calls xs ++ cons_option (chart_call act turn.acted) []
+chart_behind xs act (Turned t tape counts) turn is = charts_append xs ((Turn act, Turned t tape counts) ∷ []) ∙ ap (λ (x : ActAnswer). chart_calls xs ++ cons_option (chart_call act x.acted) []) (sym is)
+chart_behind xs act r turn is = absurd is
+
+-- an entry that is no call of an operator
+pub no_chart_behind : (xs : Entries) (act : KeptAct) (r : KeptAnswer) → chart_entry act r ≡ None → chart_calls (xs ++ (act, r) ∷ []) ≡ chart_calls xs
+no_chart_behind xs act r none =
+    charts_append xs ((act, r) ∷ []) ∙ ap (λ (o : Option Call). chart_calls xs ++ cons_option o []) none ∙ append-nil (chart_calls xs)
+
 turns_begin : (xs ys : Entries) → StartsWith xs ys → StartsWith (turns_of xs) (turns_of ys)
 turns_begin xs ys begins = (turns_of begins.0, ap turns_of begins.1 ∙ turns_append ys begins.0)
 
@@ -146,6 +160,7 @@ module _ (old new : Seated) where
     begins = turns_begin e.before old.seen e.begins;
     seen = ap turns_of e.seen ∙ turn_behind e.before act r turn is;
     own = ap turns_of e.own ∙ turn_behind old.own act r turn is;
+    calls = ap chart_calls e.own ∙ chart_behind old.own act r turn is;
     lock = e.lock;
     start = ap plant_at e.start;
     legal = network_legal new.start new.seen e.legal;
@@ -156,6 +171,7 @@ module _ (old new : Seated) where
   rested number k = record {
     seen = ap turns_of k.seen;
     own = ap turns_of k.own;
+    calls = ap chart_calls k.own;
     lock = k.lock;
     start = ap plant_at k.start;
     spent = k.spent;
