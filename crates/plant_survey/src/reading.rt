@@ -74,10 +74,13 @@ fn survey_peer(plant: &Plant, peer: u32, row: &PeerRow) -> PeerSurvey
     }
 }
 
-fn survey_peers(alloc: Global, plant: &Plant) -> Result<List<PeerSurvey>, NoMemory>
-    ensures { IfOk result (λ peers. peers ≡ peers_from (whole plant.now) 0 (whole plant.now).network.peers) }
+fn survey_peers(
+    alloc: Global,
+    plant: &Plant,
+    rows: &[PeerRow],
+) -> Result<List<PeerSurvey>, NoMemory>
+    ensures { IfOk result (λ peers. peers ≡ peers_from (whole plant.now) 0 rows.now) }
 {
-    let rows = plant.parts().peers.as_slice();
     let mut peers = List::new(alloc);
     for i in 0..rows.len() {
         peers.push(survey_peer(plant, i as u32, &rows[i]))?;
@@ -135,11 +138,15 @@ fn survey_element(plant: &Plant, row: &ElementRow) -> Result<ElementSurvey, NoMe
     }
 }
 
-fn survey_elements(alloc: Global, plant: &Plant) -> Result<List<ElementSurvey>, NoMemory>
-    ensures { IfOk result (λ elements. elements ≡ map (element_of (whole plant.now)) (whole plant.now).network.elements) }
+fn survey_elements(
+    alloc: Global,
+    plant: &Plant,
+    rows: &[ElementRow],
+) -> Result<List<ElementSurvey>, NoMemory>
+    ensures { IfOk result (λ elements. elements ≡ map (element_of (whole plant.now)) rows.now) }
 {
     let mut elements = List::new(alloc);
-    for row in plant.parts().elements.as_slice() {
+    for row in rows {
         elements.push(survey_element(plant, row)?)?;
     }
     Ok(elements)
@@ -201,8 +208,8 @@ fn survey_parent(plant: &Plant) -> Option<ParentSurvey>
 pub fn survey(alloc: Global, plant: &Plant) -> Result<Survey, NoMemory>
     ensures { IfOk result (λ survey. survey ≡ survey_of (whole plant.now)) }
 {
-    let peers = survey_peers(alloc, plant)?;
-    let elements = survey_elements(alloc, plant)?;
+    let peers = survey_peers(alloc, plant, plant.parts().peers.as_slice())?;
+    let elements = survey_elements(alloc, plant, plant.parts().elements.as_slice())?;
     let links = survey_links(alloc, plant)?;
     Ok(Survey {
         clock: plant.traffic().clock(),
