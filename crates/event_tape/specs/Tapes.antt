@@ -1,5 +1,5 @@
 -- A tape of told events: what an item takes, what a tape hands out, and how it ends.
-use Rattle.std.specs.Prelude.{◌≡◌, ◌⊎◌, ◌+◌, ◌^◌, ◌&&◌, ℕ, Bool, true, false, leb, ltb, List, [], ◌∷◌, ◌++◌, length, map, Option, Some, None}
+use Rattle.std.specs.Prelude.{◌≡◌, ◌⊎◌, ◌+◌, ◌^◌, ◌&&◌, ℕ, Bool, true, false, is_some, leb, ltb, List, [], ◌∷◌, ◌++◌, length, map, Option, Some, None}
 use Rattle.std.specs.Arc.{arc_value}
 use Rattle.plant_model.specs.declared.event.Event.{Event}
 use Rattle.plant_model.specs.declared.event.Event.TheVariants as event
@@ -8,6 +8,7 @@ use Rattle.event_tape.specs.declared.told.Told.TheVariants.{Load, Open, Shut, Re
 use Rattle.event_tape.specs.declared.tape.Handed.{Handed}
 use Rattle.event_tape.specs.declared.tape.TapeEnd.{TapeEnd}
 use Rattle.event_tape.specs.declared.tape.TapeEnd.TheVariants.{Behind, NoMemory}
+use Rattle.survey_figures.specs.declared.tape.TapeFigures.{TapeFigures}
 
 -- ---- items
 
@@ -81,3 +82,7 @@ handed_of t = record { items = t.items; before = t.handed; ended = t.ended }
 
 abbrev pub emptied : Taped → Taped
 emptied t = record t { items = []; handed = t.handed + length t.items }
+
+-- as operators are told of it
+abbrev pub figures_of : Taped → TapeFigures
+figures_of t = record { lines = t.handed; behind = length t.items; ended = is_some t.ended }

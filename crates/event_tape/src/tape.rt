@@ -1,7 +1,7 @@
 //! The tape.
 ghost use Rattle.std.specs.Prelude.{◌≡◌, ◌+◌, Some, None, is_none};
 ghost use Rattle.event_tape.specs.Counting.{IsRoom};
-ghost use Rattle.event_tape.specs.Tapes.{IsPushed, emptied, ended_by, handed_of, octets_of, empty_tape, event_of};
+ghost use Rattle.event_tape.specs.Tapes.{IsPushed, emptied, ended_by, handed_of, octets_of, empty_tape, event_of, figures_of};
 
 use crate::told::Told;
 use crate::{ITEM_OCTETS, TAPE_ROOM};
@@ -9,6 +9,7 @@ use dom_base::List;
 use std::alloc::Global;
 use std::marker::Model;
 use std::mem;
+use survey_figures::TapeFigures;
 
 /// Why a tape takes nothing more.
 #[derive(Clone, Copy)]
@@ -103,6 +104,17 @@ impl Tape {
         ensures { result ≡ is_none self.now.ended }
     {
         self.ended.is_none()
+    }
+
+    /// How far it is.
+    pub fn figures(&self) -> TapeFigures
+        ensures { result ≡ figures_of self.now }
+    {
+        TapeFigures {
+            lines: self.handed,
+            behind: self.items.len() as u64,
+            ended: !self.is_open(),
+        }
     }
 
     // How many octets all items take with this one, where it fits and its number has 64 bits.

@@ -22,7 +22,7 @@ use Rattle.plant_network.specs.declared.acts.Act.{Act}
 use Rattle.plant_network.specs.declared.acts.Act.TheVariants.{Do, Look, Ready, Next, Finish, Map}
 use Rattle.plant_network.specs.declared.acts.Acted.{Acted}
 use Rattle.plant_network.specs.declared.acts.Acted.TheVariants.{Did, Committed}
-use Rattle.kept_plant.specs.Folding.{IsBegun, IsBegunAt, Keeps, KeepsIf}
+use Rattle.kept_plant.specs.Folding.{IsBegun, IsBegunAt, IsBegunOn, Keeps, KeepsIf}
 use Rattle.kept_plant.specs.Tellings.{Folds, IsToldOpen, IsToldTo, event_in, tells, told_event}
 use Rattle.kept_plant.specs.declared.folding.Begun.{Begun}
 use Rattle.kept_plant.specs.declared.folding.Begun.TheVariants as begun
@@ -116,5 +116,17 @@ module _ (w next : Whole) where
     by_answer false at is keeps = keeps
     by_answer true at is keeps = by_event (event_in a) refl at is keeps
 
-    pub folded : IsBegun (event_in a) b → KeepsIf (tells r) b next old new → Folds (told_event a r) old new
-    folded is keeps = by_answer (tells r) refl is keeps
+    -- nothing was begun, so nothing is kept
+    nothing_kept : (t : Bool) → KeepsIf t begun.Nothing next old new → new ≡ old
+    nothing_kept false same = same
+    nothing_kept true same = same
+
+    on_ended : (why : TapeEnd) → old.ended ≡ Some why → new ≡ old → Folds (told_event a r) old new
+    on_ended why at same = subst (λ (t : Taped). Folds (told_event a r) old t) (sym same) (ended_stays_so old (told_event a r) why at)
+
+    by_tape : (o : Option TapeEnd) → old.ended ≡ o → IsBegunOn o (event_in a) b → KeepsIf (tells r) b next old new → Folds (told_event a r) old new
+    by_tape None at is keeps = by_answer (tells r) refl is keeps
+    by_tape (Some why) at is keeps = on_ended why at (nothing_kept (tells r) (subst (λ (c : Begun). KeepsIf (tells r) c next old new) is keeps))
+
+    pub folded : IsBegunOn old.ended (event_in a) b → KeepsIf (tells r) b next old new → Folds (told_event a r) old new
+    folded is keeps = by_tape old.ended refl is keeps

@@ -17,9 +17,9 @@ use Rattle.kept_plant.specs.Histories.{IsEnded, KeptLegal, Tells, handed_by, han
 use Rattle.kept_plant.specs.Tellings.{tellings}
 use Rattle.kept_plant.specs.Turns.{Kept, KeptAllows, kept_after}
 use Rattle.kept_plant.specs.declared.acts.KeptAct.{KeptAct}
-use Rattle.kept_plant.specs.declared.acts.KeptAct.TheVariants.{Turn, Hand, Stop}
+use Rattle.kept_plant.specs.declared.acts.KeptAct.TheVariants.{Turn, Hand, Stop, Survey}
 use Rattle.kept_plant.specs.declared.acts.KeptAnswer.{KeptAnswer}
-use Rattle.kept_plant.specs.declared.acts.KeptAnswer.TheVariants.{Turned, Handed, Stopped}
+use Rattle.kept_plant.specs.declared.acts.KeptAnswer.TheVariants.{Turned, Handed, Stopped, Surveyed}
 use Rattle.kept_plant.proofs.Tells.{ended_tapes, entry_counted, open_tapes}
 
 -- ---- lists
@@ -130,8 +130,9 @@ hands_are (e ∷ es) = one_hand e.0 e.1 (hands_in es) ∙ ap (λ (ts : List Told
 module _ (s : Kept) where
   whole_by : (a : KeptAct) (r : KeptAnswer) (hs : List HandedOut) → KeptAllows s a r → AreWhole (s.tape.handed + length (handed_by a r)) hs → AreWhole s.tape.handed (cons_option (hand_of a r) hs)
   whole_by (Hand empty) (Handed h) hs allows rest = (ap (λ (x : HandedOut). x.before) allows, rest)
-  whole_by (Turn a) (Turned t tape) hs allows rest = let same : s.tape.handed + 0 ≡ s.tape.handed = omega arith in subst (λ (k : ℕ). AreWhole k hs) same rest
+  whole_by (Turn a) (Turned t tape counts) hs allows rest = let same : s.tape.handed + 0 ≡ s.tape.handed = omega arith in subst (λ (k : ℕ). AreWhole k hs) same rest
   whole_by Stop Stopped hs allows rest = let same : s.tape.handed + 0 ≡ s.tape.handed = omega arith in subst (λ (k : ℕ). AreWhole k hs) same rest
+  whole_by Survey (Surveyed x) hs allows rest = let same : s.tape.handed + 0 ≡ s.tape.handed = omega arith in subst (λ (k : ℕ). AreWhole k hs) same rest
   whole_by a r hs allows rest = absurd allows
 
 -- each begins where the one before ended
@@ -159,8 +160,9 @@ nothing_last (x ∷ xs) ys none = absurd (let no : ⊥ = cc in no)
 ends_by : (s : Kept) (a : KeptAct) (r : KeptAnswer) (es : List (KeptAct × KeptAnswer)) → KeptAllows s a r → KeptLegal (kept_after s a r) es → EndWhole (hands_in es) → EndWhole (cons_option (hand_of a r) (hands_in es))
 ends_by s (Hand empty) (Handed h) es allows legal rest =
     (λ why at. hands_are es ∙ nothing_first (handed_in es) (replay kept_after (record s { tape = emptied s.tape }) es).tape.items (nothing_left s es h allows why at legal).items, rest)
-ends_by s (Turn a) (Turned t tape) es allows legal rest = rest
+ends_by s (Turn a) (Turned t tape counts) es allows legal rest = rest
 ends_by s Stop Stopped es allows legal rest = rest
+ends_by s Survey (Surveyed x) es allows legal rest = rest
 ends_by s a r es allows legal rest = absurd allows
 
 pub ends_whole : (s : Kept) (es : List (KeptAct × KeptAnswer)) → KeptLegal s es → EndWhole (hands_in es)
@@ -181,8 +183,9 @@ over_by s (Hand empty) (Handed h) es allows legal rest = (
       (ended.ended, nothing_last (handed_in es) (replay kept_after (record s { tape = emptied s.tape }) es).tape.items ended.items),
   rest,
 )
-over_by s (Turn a) (Turned t tape) es allows legal rest = rest
+over_by s (Turn a) (Turned t tape counts) es allows legal rest = rest
 over_by s Stop Stopped es allows legal rest = rest
+over_by s Survey (Surveyed x) es allows legal rest = rest
 over_by s a r es allows legal rest = absurd allows
 
 pub says_over : (s : Kept) (es : List (KeptAct × KeptAnswer)) → KeptLegal s es → AllByRecursion (SaysEnd (replay kept_after s es).tape) (hands_in es)

@@ -15,9 +15,9 @@ use Rattle.kept_plant.specs.Histories.{EndsIn, IsEnded, IsReason, KeptLegal, Tel
 use Rattle.kept_plant.specs.Tellings.{Folds, IsToldOpen, IsToldTo, tellings, told_event}
 use Rattle.kept_plant.specs.Turns.{Kept, KeptAllows, kept_after}
 use Rattle.kept_plant.specs.declared.acts.KeptAct.{KeptAct}
-use Rattle.kept_plant.specs.declared.acts.KeptAct.TheVariants.{Turn, Hand, Stop}
+use Rattle.kept_plant.specs.declared.acts.KeptAct.TheVariants.{Turn, Hand, Stop, Survey}
 use Rattle.kept_plant.specs.declared.acts.KeptAnswer.{KeptAnswer}
-use Rattle.kept_plant.specs.declared.acts.KeptAnswer.TheVariants.{Turned, Handed, Stopped}
+use Rattle.kept_plant.specs.declared.acts.KeptAnswer.TheVariants.{Turned, Handed, Stopped, Surveyed}
 
 -- ---- a tape in one turn
 
@@ -114,20 +114,22 @@ told_reason end.NoMemory t a r is = is
 told_reason end.Stopped t a r is = absurd is
 
 entry_cases : (s : Kept) (a : KeptAct) (r : KeptAnswer) → s.tape.ended ≡ None → KeptAllows s a r → GoesBy s a r ⊎ EndsBy s a r
-entry_cases s (Turn a) (Turned t tape) unended allows = elim (fold_cases (told_event a t.acted) s.tape tape.value unended allows.1) [
+entry_cases s (Turn a) (Turned t tape counts) unended allows = elim (fold_cases (told_event a t.acted) s.tape tape.value unended allows.1) [
   | inl goes ↦ inl goes
-  | inr ended ↦ inr (ended.0, ended.1.stays, ended.1.ended, told_reason ended.0 s.tape (Turn a) (Turned t tape) ended.2)
+  | inr ended ↦ inr (ended.0, ended.1.stays, ended.1.ended, told_reason ended.0 s.tape (Turn a) (Turned t tape counts) ended.2)
 ]
 entry_cases s (Hand empty) (Handed h) unended allows = inl (stays_goes h.items s.tape (emptied s.tape) (hand_stays h s.tape allows) unended)
 entry_cases s Stop Stopped unended allows =
     let ends : EndsAt end.Stopped s.tape (ended_by end.Stopped s.tape) = ends_at end.Stopped s.tape (ended_by end.Stopped s.tape) unended refl in inr (end.Stopped, ends.stays, ends.ended, refl)
+entry_cases s Survey (Surveyed x) unended allows = inl (stays_goes [] s.tape s.tape (same_stays s.tape s.tape refl) unended)
 entry_cases s a r unended allows = absurd allows
 
 entry_stays : (why : TapeEnd) (s : Kept) (a : KeptAct) (r : KeptAnswer) → s.tape.ended ≡ Some why → KeptAllows s a r → StaysBy why s a r
-entry_stays why s (Turn a) (Turned t tape) at allows =
+entry_stays why s (Turn a) (Turned t tape counts) at allows =
     let same : tape.value ≡ s.tape = fold_same (told_event a t.acted) s.tape tape.value why at allows.1 in (same_stays s.tape tape.value same, ap (λ (x : Taped). x.ended) same ∙ at)
 entry_stays why s (Hand empty) (Handed h) at allows = (hand_stays h s.tape allows, at)
 entry_stays why s Stop Stopped at allows = (end_stays end.Stopped s.tape (ended_by end.Stopped s.tape) refl, ap (λ (o : Option TapeEnd). Some (end_after o end.Stopped)) at)
+entry_stays why s Survey (Surveyed x) at allows = (same_stays s.tape s.tape refl, at)
 entry_stays why s a r at allows = absurd allows
 
 -- how many events were handed out by then
@@ -142,9 +144,10 @@ fold_counted None old new is = ap (λ (t : Taped). t.handed) is
 fold_counted (Some e) old new is = told_counted old.ended e old new is
 
 pub entry_counted : (s : Kept) (a : KeptAct) (r : KeptAnswer) → KeptAllows s a r → (kept_after s a r).tape.handed ≡ s.tape.handed + length (handed_by a r)
-entry_counted s (Turn a) (Turned t tape) allows = fold_counted (told_event a t.acted) s.tape tape.value allows.1 ∙ same_count s.tape.handed
+entry_counted s (Turn a) (Turned t tape counts) allows = fold_counted (told_event a t.acted) s.tape tape.value allows.1 ∙ same_count s.tape.handed
 entry_counted s (Hand empty) (Handed h) allows = (hand_stays h s.tape allows).counted
 entry_counted s Stop Stopped allows = same_count s.tape.handed
+entry_counted s Survey (Surveyed x) allows = same_count s.tape.handed
 entry_counted s a r allows = absurd allows
 
 -- ---- histories
@@ -154,7 +157,7 @@ one_told None es = refl
 one_told (Some e) es = refl
 
 entry_tells : (a : KeptAct) (r : KeptAnswer) (turns : List (Act × ActAnswer)) → tellings (cons_option (turn_of a r) turns) ≡ cons_option (told_in a r) [] ++ tellings turns
-entry_tells (Turn a) (Turned t tape) turns = one_told (told_event a t.acted) (tellings turns)
+entry_tells (Turn a) (Turned t tape counts) turns = one_told (told_event a t.acted) (tellings turns)
 entry_tells a r turns = refl
 
 module _ (s : Kept) (e : KeptAct × KeptAnswer) (es : List (KeptAct × KeptAnswer)) where

@@ -2,6 +2,7 @@
 use Rattle.std.specs.Prelude.{◌≡◌, Bool, true, false, Option, Some, None}
 use Rattle.te_links.specs.Rows.{Rows}
 use Rattle.event_tape.specs.Tapes.{Taped, ended_by, event_of}
+use Rattle.event_tape.specs.declared.tape.TapeEnd.{TapeEnd}
 use Rattle.event_tape.specs.declared.tape.TapeEnd.TheVariants as end
 use Rattle.plant_network.specs.plant_model.declared.event.Event.{Event}
 use Rattle.plant_network.specs.plant_model.declared.event.Event.TheVariants.{Load}
@@ -20,6 +21,11 @@ IsBegunAt e NoMemory = Unit {0}
 abbrev pub IsBegun : Option Event → Begun → Type 0
 IsBegun (Some e) b = IsBegunAt e b
 IsBegun None b = b ≡ Nothing
+
+-- the same where the tape ended so: then nothing is begun
+abbrev pub IsBegunOn : Option TapeEnd → Option Event → Begun → Type 0
+IsBegunOn None o b = IsBegun o b
+IsBegunOn (Some why) o b = b ≡ Nothing
 
 -- by the network as it is then
 abbrev pub Keeps : Begun → Whole → Taped → Taped → Type 0

@@ -20,7 +20,7 @@ use Rattle.kept_plant.specs.declared.acts.KeptAnswer.TheVariants.{Turned, Handed
 -- ---- its turns
 
 abbrev pub turn_of : KeptAct → KeptAnswer → Option (Act × ActAnswer)
-turn_of (Turn a) (Turned t tape) = Some (a, t)
+turn_of (Turn a) (Turned t tape counts) = Some (a, t)
 turn_of a r = None
 
 -- the turns of the network, in their order
@@ -53,7 +53,7 @@ handed_in (e ∷ es) = handed_by e.0 e.1 ++ handed_in es
 
 -- what is told of a turn
 abbrev pub told_in : KeptAct → KeptAnswer → Option Event
-told_in (Turn a) (Turned t tape) = told_event a t.acted
+told_in (Turn a) (Turned t tape counts) = told_event a t.acted
 told_in a r = None
 
 -- the reason why a tape ended in this turn

@@ -1,8 +1,10 @@
 //! What may be done to a network of whose turns something is kept.
-use dom_base::List;
+use dom_base::{List, NoMemory};
 use event_tape::{Handed, Tape, Told};
+use plant_counts::Counts;
 use plant_network::{Act, ActAnswer};
 use std::snapshot::Snapshot;
+use survey_figures::Surveyed;
 
 /// What may be done in a turn.
 #[derive(Drop)]
@@ -13,13 +15,17 @@ pub enum KeptAct {
     Hand(List<Told>),
     /// The tape ends.
     Stop,
+    /// The network, its counts and its tape are read.
+    Survey,
 }
 
 /// What an act answers.
 #[derive(Drop)]
 pub enum KeptAnswer {
-    /// What the network answers, and the tape that the turn left. Contracts alone speak of that tape: want of memory leaves a choice.
-    Turned(ActAnswer, Snapshot<Tape>),
+    /// What the network answers, and the tape and the counts that the turn left. Contracts alone speak of these: want of memory leaves a
+    /// choice.
+    Turned(ActAnswer, Snapshot<Tape>, Snapshot<Counts>),
     Handed(Handed),
     Stopped,
+    Surveyed(Result<Surveyed, NoMemory>),
 }

@@ -4,7 +4,7 @@ ghost use Rattle.event_tape.specs.Tapes.{event_of};
 ghost use Rattle.plant_network.specs.Topologies.{whole};
 ghost use Rattle.plant_network.specs.Turns.{Admits, Allowed, left_by, solve_of};
 ghost use Rattle.kept_plant.specs.Tellings.{Folds, event_in, is_idle, tells, told_event};
-ghost use Rattle.kept_plant.specs.Folding.{IsBegun, IsBegunAt, Keeps, KeepsIf};
+ghost use Rattle.kept_plant.specs.Folding.{IsBegun, IsBegunAt, IsBegunOn, Keeps, KeepsIf};
 
 use crate::telling::tell_load;
 use dom_base::As;
@@ -56,7 +56,7 @@ fn begin_event(alloc: Global, event: &Event) -> Begun
     }
 }
 
-fn begin(alloc: Global, act: &Act) -> Begun
+fn begin_act(alloc: Global, act: &Act) -> Begun
     ensures { IsBegun (event_in act.now) result }
 {
     match act {
@@ -66,8 +66,19 @@ fn begin(alloc: Global, act: &Act) -> Begun
     }
 }
 
+// A tape that has ended costs a test alone.
+fn begin(alloc: Global, tape: &Tape, act: &Act) -> Begun
+    ensures { IsBegunOn tape.now.ended (event_in act.now) result }
+{
+    if tape.is_open() {
+        begin_act(alloc, act)
+    } else {
+        Begun::Nothing
+    }
+}
+
 // Whether nothing was handed out.
-fn is_idle(outcome: &Outcome) -> bool
+pub(crate) fn is_idle(outcome: &Outcome) -> bool
     ensures { result ≡ is_idle outcome.now }
 {
     match outcome {
@@ -102,17 +113,14 @@ fn keep(plant: &Plant, tape: &mut Tape, begun: Begun, acted: &Acted)
     }
 }
 
-/// Does an act of the network, and keeps what is told of it. A tape that has ended costs a test alone.
+/// Does an act of the network, and keeps what is told of it.
 pub(crate) fn fold(alloc: Global, plant: &mut Plant, tape: &mut Tape, act: Act) -> ActAnswer
     requires admits { Admits (whole plant.old) act }
     ensures allowed { Allowed (whole plant.old) act result }
     ensures left { whole plant.new ≡ left_by (whole plant.old) act result }
     ensures tape { Folds (told_event act result.acted) tape.old tape.new }
 {
-    if !tape.is_open() {
-        return plant.turn(act);
-    }
-    let begun = begin(alloc, &act);
+    let begun = begin(alloc, tape, &act);
     let answer = plant.turn(act);
     keep(plant, tape, begun, &answer.acted);
     answer

@@ -1,4 +1,5 @@
-//! What many turns make of a network and its tape: laws, each as the contract of a call that does nothing.
+//! What many turns make of a network, its tape and its counts: laws, each as the contract of a call that does nothing.
+ghost use Rattle.kept_plant.specs.Countings.{CountsTell, SurveysTell};
 ghost use Rattle.kept_plant.specs.Handing.{HandsTell};
 ghost use Rattle.kept_plant.specs.Histories.{EndedTapesStay, KeptHistoriesAreLegal, TapesTell};
 
@@ -23,4 +24,14 @@ pub fn hands_tell()
 /// A tape that has ended takes nothing more, and stays ended for that reason.
 pub fn ended_tapes_stay()
     ensures { EndedTapesStay }
+{}
+
+/// After any legal history the counts are those of the turns that were told, and of those before: none left out, none twice.
+pub fn counts_tell()
+    ensures { CountsTell }
+{}
+
+/// What a survey tells is read from what the history before it leaves, all at one moment; and a survey changes nothing.
+pub fn surveys_tell()
+    ensures { SurveysTell }
 {}

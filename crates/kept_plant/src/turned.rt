@@ -1,9 +1,10 @@
-//! A network and its tape take turns as one value.
+//! A network, its tape and its counts take turns as one value.
 ghost use Rattle.std.specs.Prelude.{◌≡◌};
 
 use crate::acts::{KeptAct, KeptAnswer};
-use crate::folding::fold;
+use crate::counting::do_act;
 use crate::kept::KeptPlant;
+use crate::surveying::survey_all;
 use event_tape::TapeEnd;
 use plant_lock::Turned;
 use std::snapshot::Snapshot;
@@ -31,13 +32,23 @@ impl Turned for KeptPlant {
     fn turn(&mut self, act: KeptAct) -> KeptAnswer {
         match act {
             KeptAct::Turn(act) => {
-                let turn = fold(self.alloc, &mut self.plant, &mut self.tape, act);
-                KeptAnswer::Turned(turn, Snapshot::of(&self.tape))
+                let turn = do_act(
+                    self.alloc,
+                    &mut self.plant,
+                    &mut self.tape,
+                    &mut self.counts,
+                    act,
+                );
+                KeptAnswer::Turned(turn, Snapshot::of(&self.tape), Snapshot::of(&self.counts))
             }
             KeptAct::Hand(empty) => KeptAnswer::Handed(self.tape.hand(empty)),
             KeptAct::Stop => {
                 self.tape.end(TapeEnd::Stopped);
                 KeptAnswer::Stopped
+            }
+            KeptAct::Survey => {
+                let surveyed = survey_all(self.alloc, &self.plant, &self.tape, &self.counts);
+                KeptAnswer::Surveyed(surveyed)
             }
         }
     }

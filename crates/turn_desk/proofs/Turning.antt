@@ -334,7 +334,7 @@ look_warrants (Finish y) (Committed r) d k job x is by = absurd (let no : ⊥ = 
 look_warrants act acted d k job x is by = absurd (let no : ⊥ = cc in no)
 
 kept_warrants : (a : KeptAct) (r : KeptAnswer) (e : Act × ActAnswer) (x : Done) → turn_of a r ≡ Some e → Warrants e.0 e.1.acted (Finish x) → KeptWarrants a r (Turn (Finish x))
-kept_warrants (Turn a) (Turned t tape) e x is warrant = let same : (a, t) ≡ e = cc in subst (λ (z : Act × ActAnswer). Warrants z.0 z.1.acted (Finish x)) (sym same) warrant
+kept_warrants (Turn a) (Turned t tape counts) e x is warrant = let same : (a, t) ≡ e = cc in subst (λ (z : Act × ActAnswer). Warrants z.0 z.1.acted (Finish x)) (sym same) warrant
 kept_warrants a r e x is warrant = absurd (let no : ⊥ = cc in no)
 
 pub may_finish : (s : Seated) (places : List ℕ) (x : Done) → s.own ≡ entries_at s.seen places → bench.WasGiven (benched_of (stand_on s)) x → Admitted KeptAdmits KeptWarrants s.seen (Turn (Finish x))

@@ -1,6 +1,6 @@
 -- A desk at the lock of a network: the calls that its seat's own entries are, and what one call leaves.
 use Rattle.std.specs.Prelude.{◌≡◌, ◌^◌, ◌≤◌, ℕ, List, [], ◌∷◌, ◌++◌, Option, Some, None, Result, Ok, Err}
-use Rattle.std.specs.List.{filter_map}
+use Rattle.std.specs.List.{cons_option, filter_map}
 use Rattle.atomic_table.specs.Seated.{TableId}
 use Rattle.plant_lock.specs.declared.seat.TurnSeat.{TurnSeat}
 use Rattle.plant_lock.specs.declared.turned.Turned.{Ghosts}
@@ -29,29 +29,32 @@ use Rattle.plant_network.specs.network_links.declared.rest.Rest.TheVariants.{Not
 use Rattle.server_loops.specs.Desks.{Answer, Call, Desked, call_telling}
 use Rattle.server_loops.specs.declared.desks.DeskRefused.{DeskRefused}
 use Rattle.server_loops.specs.declared.desks.DeskRefused.TheVariants.{Plant, Spent}
+use Rattle.server_loops.specs.Charts.{Call as Operation}
 use Rattle.server_loops.specs.Benches as bench
 use Rattle.server_loops.specs.Benches.{Benched}
 use Rattle.server_loops.specs.declared.benches.Finished.{Finished}
 use Rattle.server_loops.specs.declared.benches.Finished.TheVariants as finished
+use Rattle.turn_desk.specs.ChartCalls.{chart_call, chart_calls}
 use Rattle.turn_desk.specs.Histories.{known_by, plant_at}
 use Rattle.turn_desk.specs.Seats.{Seated, seated}
 use Rattle.turn_desk.specs.declared.desk.TurnDesk.{TurnDesk}
 
 -- ---- what a desk stands for
 
--- at which lock the desk is, what the network was at the opening of that lock, what the desk has seen of the history, its own entries,
--- the ticket word that it last met, and at which number it was spent
+-- at which lock the desk is, what the network was at the opening of that lock, what the desk has seen of the history, its own turns,
+-- its own calls as an operator's, the ticket word that it last met, and at which number it was spent
 pub record Stand : Type 0 where
   pub lock : TableId
   pub start : Option Held
   pub seen : List (Act × ActAnswer)
   pub own : List (Act × ActAnswer)
+  pub calls : List Operation
   pub met : ℕ
   pub spent : Option ℕ
 
 -- of what is kept at the lock a desk sees the network and its turns
 abbrev pub stand_on : Seated → Stand
-stand_on s = record { lock = s.lock; start = plant_at s.start; seen = turns_of s.seen; own = turns_of s.own; met = s.met; spent = s.spent }
+stand_on s = record { lock = s.lock; start = plant_at s.start; seen = turns_of s.seen; own = turns_of s.own; calls = chart_calls s.own; met = s.met; spent = s.spent }
 
 -- of a seat, and of a desk that was spent at this number
 abbrev pub stand_at : {g : Ghosts KeptPlant KeptAct KeptAnswer} → TurnSeat KeptPlant KeptAct KeptAnswer g → Option ℕ → Stand
@@ -65,7 +68,7 @@ shares_at {R} d = shares_of d.seat
 
 -- the first desk at a new lock
 abbrev pub opened_by : TableId → Held → Stand
-opened_by lock h = record { lock = lock; start = Some h; seen = []; own = []; met = 0; spent = None }
+opened_by lock h = record { lock = lock; start = Some h; seen = []; own = []; calls = []; met = 0; spent = None }
 
 -- a lock was opened round that network, and the desk knows of no turn at it
 abbrev pub IsOpened : Held → Stand → Type 0
@@ -73,7 +76,7 @@ IsOpened h s = s ≡ opened_by s.lock h
 
 -- a further desk at the same lock: it has made no turn
 abbrev pub split_from : Stand → Stand
-split_from s = record s { own = []; spent = None }
+split_from s = record s { own = []; calls = []; spent = None }
 
 -- ---- where it stands
 
@@ -136,6 +139,7 @@ pub record Makes (old new : Stand) (act : Act) (turn : ActAnswer) : Type 0 where
   pub begins : StartsWith before old.seen
   pub seen : new.seen ≡ before ++ (act, turn) ∷ []
   pub own : new.own ≡ old.own ++ (act, turn) ∷ []
+  pub calls : new.calls ≡ old.calls ++ cons_option (chart_call act turn.acted) []
   pub lock : new.lock ≡ old.lock
   pub start : new.start ≡ old.start
   pub legal : LegalFrom whole Admits Allowed left_by new.start new.seen
@@ -145,6 +149,7 @@ pub record Makes (old new : Stand) (act : Act) (turn : ActAnswer) : Type 0 where
 pub record Rests (old new : Stand) (number : ℕ) : Type 0 where
   pub seen : new.seen ≡ old.seen
   pub own : new.own ≡ old.own
+  pub calls : new.calls ≡ old.calls
   pub lock : new.lock ≡ old.lock
   pub start : new.start ≡ old.start
   pub spent : new.spent ≡ Some number

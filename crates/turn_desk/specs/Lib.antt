@@ -3,6 +3,8 @@ pub mod Histories
 pub mod Seats
 pub mod Opened
 pub mod Telling
+pub mod Surveying
+pub mod ChartCalls
 pub mod Desks
 pub mod Standings
 pub mod Charts

@@ -36,12 +36,12 @@ seat_of {R} d = seated d.seat d.spent_at
 -- ---- answers
 
 abbrev pub IsTurned : KeptAnswer → Type 0
-IsTurned (Turned turn tape) = Unit {0}
+IsTurned (Turned turn tape counts) = Unit {0}
 IsTurned answer = ⊥
 
 -- the network answered so
 abbrev pub IsTurnedAs : KeptAnswer → ActAnswer → Type 0
-IsTurnedAs (Turned turn tape) given = given ≡ turn
+IsTurnedAs (Turned turn tape counts) given = given ≡ turn
 IsTurnedAs answer given = ⊥
 
 -- ---- an entry

@@ -10,11 +10,12 @@ ghost use Rattle.plant_network.specs.pce_element.pce_common.declared.refusal.Ref
 ghost use Rattle.plant_network.specs.pce_parent.declared.work.Done.{Done};
 ghost use Rattle.plant_network.specs.pce_parent.declared.work.Work.{Work};
 ghost use Rattle.event_tape.specs.declared.tape.Handed.{Handed as HandedOut};
-ghost use Rattle.kept_plant.specs.declared.acts.KeptAnswer.TheVariants.{Handed as HandedSo};
+ghost use Rattle.kept_plant.specs.declared.acts.KeptAnswer.TheVariants.{Handed as HandedSo, Surveyed as SurveyedSo};
+ghost use Rattle.survey_figures.specs.declared.surveyed.Surveyed.{Surveyed as Reading};
 ghost use Rattle.turn_desk.specs.Seats.{IsTurned, IsTurnedAs};
 
 use dom_base::{As, NoMemory};
-use kept_plant::{Handed, KeptAnswer};
+use kept_plant::{Handed, KeptAnswer, Surveyed};
 use plant_network::model::{Outcome, Refused};
 use plant_network::{ActAnswer, Acted, AskedJob, Done, Refusal, Work};
 
@@ -24,9 +25,10 @@ pub(crate) fn turned_in(answer: KeptAnswer) -> ActAnswer
     ensures { IsTurnedAs answer result }
 {
     match answer {
-        KeptAnswer::Turned(turn, _tape) => turn,
+        KeptAnswer::Turned(turn, _tape, _counts) => turn,
         KeptAnswer::Handed(_handed) => unreachable!(),
         KeptAnswer::Stopped => unreachable!(),
+        KeptAnswer::Surveyed(_surveyed) => unreachable!(),
     }
 }
 
@@ -37,6 +39,17 @@ pub(crate) fn handed_in(answer: KeptAnswer) -> Handed
 {
     match answer {
         KeptAnswer::Handed(handed) => handed,
+        _ => unreachable!(),
+    }
+}
+
+/// What was read.
+pub(crate) fn surveyed_in(answer: KeptAnswer) -> Result<Surveyed, NoMemory>
+    requires { (r : Result Reading NoMemory) × (answer ≡ SurveyedSo r) }
+    ensures { answer ≡ SurveyedSo result }
+{
+    match answer {
+        KeptAnswer::Surveyed(surveyed) => surveyed,
         _ => unreachable!(),
     }
 }

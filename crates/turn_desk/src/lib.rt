@@ -18,6 +18,7 @@ mod line;
 mod notes;
 mod rounds;
 mod standing;
+mod surveying;
 mod taping;
 mod turns;
 mod workbench;

@@ -7,6 +7,7 @@ ghost use Rattle.turn_desk.specs.Desks.{IsOpened, IsTurn, IsTurnTelling, shares_
 ghost use Rattle.turn_desk.specs.Histories.{Begins, NoneIsPending, plant_at};
 ghost use Rattle.turn_desk.specs.Opened.{IsOpenedSo};
 ghost use Rattle.turn_desk.specs.Seats.{IsEntry, seat_of, seated};
+ghost use Rattle.turn_desk.specs.Surveying.{BeginsToCount};
 ghost use Rattle.plant_network.specs.Topologies.{whole};
 ghost use Rattle.kept_plant.specs.declared.acts.KeptAct.TheVariants.{Turn};
 
@@ -212,6 +213,7 @@ impl<R: Wait + Clock + Drop> TurnDesk<R> {
         requires begun { NoneIsPending (whole plant).state }
         ensures stand { IfOk result (λ desk. IsOpened plant (stand_of desk)) }
         ensures tape { IfOk result (λ desk. IsOpenedSo tape (seat_of desk)) }
+        ensures counts { IfOk result (λ desk. BeginsToCount (seat_of desk).start) }
         ensures shares { IfOk result (λ desk. shares_at desk ≡ seats) }
     {
         let bells = Arc::new(alloc, Bells::new(alloc)?)?;
@@ -232,9 +234,10 @@ impl<R: Wait + Clock + Drop> TurnDesk<R> {
         requires begun { NoneIsPending (whole plant).state }
         ensures stand { IfOk result (λ desk. IsOpened plant (stand_of desk)) }
         ensures tape { IfOk result (λ desk. IsOpenedSo tape (seat_of desk)) }
+        ensures counts { IfOk result (λ desk. BeginsToCount (seat_of desk).start) }
         ensures shares { IfOk result (λ desk. shares_at desk ≡ seats) }
     {
-        let kept = KeptPlant::new(alloc, plant, tape);
+        let kept = KeptPlant::new(alloc, plant, tape)?;
         let (lock, seat) = Turnstile::open(alloc, kept, seats)?;
         let lock = Arc::new(alloc, lock)?;
         Ok(TurnDesk::new(rt, lock, seat))

@@ -1,4 +1,4 @@
-//! What is told of the turns at a lock, as its tape hands it out.
+//! What is told of the turns at a lock, as its tape hands it out, and as operators read it.
 ghost use Rattle.std.specs.Prelude.{◌<◌};
 
 use crate::turns::{AT, SETTINGS, ask, make_door, run};
@@ -12,6 +12,7 @@ use std::alloc::Global;
 use std::sync::Wait;
 use std::test::Fail;
 use std::time::Clock;
+use survey_figures::Stage;
 use turn_desk::TurnDesk;
 
 // A letter for each kind.
@@ -92,5 +93,27 @@ fn a_tape_that_is_off_keeps_nothing(rt: HostRuntime) -> Result<(), Fail> {
     ask(alloc, &mut desk).ok_or("two requests")?;
     let handed = desk.hand(List::new(alloc)).ok().ok_or("a hand")?;
     assert!(rt; handed.items.is_empty() && matches!(handed.ended, Some(TapeEnd::Stopped)));
+    Ok(())
+}
+
+// The session came up with an Open and a Keepalive, and its two requests wait; the take that is refused is not counted, and the tick is.
+#[test]
+fn a_survey_reads_what_was_done(rt: HostRuntime) -> Result<(), Fail> {
+    let alloc = rt.alloc();
+    let mut desk = open_taped(rt, alloc, Tape::new(alloc), 1).ok_or("a desk")?;
+    ask(alloc, &mut desk).ok_or("two requests")?;
+    assert!(rt; desk.act(Event::Take(0)).is_err());
+    assert!(rt; desk.act(Event::Tick(Tick(5))).is_ok());
+    let read = desk.survey().ok().ok_or("a turn")?.ok().ok_or("memory")?;
+    let peer = read.survey.peers.as_slice().first().ok_or("a peer")?;
+    assert!(rt; read.survey.clock.0 == 5 && matches!(peer.stage, Stage::Up));
+    assert!(rt; peer.pending == 2 && peer.waiting == 0);
+    let element = read.survey.elements.as_slice().first().ok_or("an element")?;
+    assert!(rt; element.topology.generation == 1 && element.topology.nodes == 2);
+    assert!(rt; element.requests == 2 && element.ready == 2 && element.free == 8_192);
+    let counts = read.counts.peers.as_slice().first().ok_or("its counts")?;
+    assert!(rt; counts.connections == 1 && counts.octets.fed == 72);
+    assert!(rt; counts.taken.opening == 1 && counts.taken.request == 2);
+    assert!(rt; read.tape.lines == 0 && read.tape.behind == 8 && !read.tape.ended);
     Ok(())
 }

@@ -1,0 +1,3 @@
+-- for readers
+pub mod Surveys
+pub mod Phases
