@@ -17,6 +17,7 @@ use Rattle.server_loops.specs.Shelves.{Shelved}
 use Rattle.server_loops.specs.declared.operating.Operated.{Operated}
 use Rattle.server_loops.specs.declared.operating.Operated.TheVariants as operated
 use Rattle.turn_desk.specs.Desks.{IsStill, Stand, benched_of, desked_of, stand_of}
+use Rattle.turn_desk.specs.Seats.{seat_of}
 use Rattle.turn_desk.specs.Works.{works}
 use Rattle.turn_desk.specs.WorkBenches.{bench_of, desk_of}
 use Rattle.turn_desk.specs.Charts.{charted_of}
@@ -91,7 +92,7 @@ module _ {K F I O R : Type 0} (x : Outside K F I O) (turns : ℕ) where
       (index' ≡ index) × IsSameListener x listener' listener × WatchesPort turns (known watcher) (known watcher') (heard_of x listener) (heard_of x listener')
   RunsTask end.Scraping (task.Scrape clock seat page listener) (task.Scrape clock' seat' page' listener') =
       IsSameListener x listener' listener
-      × ((c : Clocked) × (d : Clocked) × ScrapesPort turns (scraper page c (surveys_at (stand_of seat.desk))) (scraper page' d (surveys_at (stand_of seat'.desk))) (attended_of x listener) (attended_of x listener'))
+      × ((c : Clocked) × (d : Clocked) × ScrapesPort turns (scraper page c (surveys_at (seat_of seat.desk))) (scraper page' d (surveys_at (seat_of seat'.desk))) (attended_of x listener) (attended_of x listener'))
   RunsTask e old new = ⊥
 
 -- A task stands where it stood: its desk is at the same lock, with the same settings, and what is published is on the same list.

@@ -1,13 +1,16 @@
 -- The port at which machines ask for counts: whether one is asked for, and why it can't be had.
-use Rattle.std.specs.Prelude.{◌≡◌, ℕ, Bool, List, [], ◌∷◌, map, Option, Some, None}
+use Rattle.std.specs.Prelude.{◌≡◌, ℕ, Bool, List, [], ◌∷◌, map, Option, Some, None, Ok}
 use Rattle.std.specs.List.{filter_map}
 use Rattle.dom_base.specs.declared.addr.Addr.{Addr}
 use Rattle.dom_edge.specs.Causes.{Rose}
 use Rattle.plant_text.specs.declared.settings.NetworkParts.{NetworkParts}
-use Rattle.server_loops.specs.Charts.{Call, Did, Mapped, Saw}
-use Rattle.survey_figures.specs.declared.surveyed.Surveyed.{Surveyed}
-use Rattle.turn_desk.specs.Charts.{charted_of}
+use Rattle.kept_plant.specs.declared.acts.KeptAct.{KeptAct}
+use Rattle.kept_plant.specs.declared.acts.KeptAct.TheVariants.{Survey}
+use Rattle.kept_plant.specs.declared.acts.KeptAnswer.{KeptAnswer}
+use Rattle.kept_plant.specs.declared.acts.KeptAnswer.TheVariants.{Surveyed}
+use Rattle.survey_figures.specs.declared.surveyed.Surveyed.{Surveyed as SurveyedSo}
 use Rattle.turn_desk.specs.Desks.{Stand}
+use Rattle.turn_desk.specs.Seats.{Seated}
 use Rattle.network_serving.specs.Bases.{Base, Counts}
 use Rattle.network_serving.specs.declared.duties.Duty.{Duty}
 use Rattle.network_serving.specs.declared.duties.Duty.TheVariants.{Scrape}
@@ -17,14 +20,16 @@ use Rattle.network_serving.specs.declared.served.Served.TheVariants as served
 
 -- ---- surveys
 
-abbrev pub saw : Call → Option Surveyed
-saw (Did e r) = None
-saw (Mapped at r) = None
-saw (Saw s) = Some s
+abbrev pub surveyed_in : KeptAct → KeptAnswer → Option SurveyedSo
+surveyed_in Survey (Surveyed (Ok x)) = Some x
+surveyed_in act answer = None
 
--- those that were made at a desk, the oldest first
-abbrev pub surveys_at : Stand → List Surveyed
-surveys_at s = filter_map saw (charted_of s).calls
+abbrev pub surveys_of : List (KeptAct × KeptAnswer) → List SurveyedSo
+surveys_of es = filter_map (λ (e : KeptAct × KeptAnswer). surveyed_in e.0 e.1) es
+
+-- those that were made at a seat, the oldest first: what each tells, the history of the lock says
+abbrev pub surveys_at : Seated → List SurveyedSo
+surveys_at s = surveys_of s.own
 
 -- ---- whether one is asked for
 

@@ -183,17 +183,24 @@ fn scraping_of(rt: &HostRuntime) -> Result<Counted, Ended> {
     }
 }
 
-// What the variables ask for beside the address at which routers are listened for: a record, and a port of counts.
-fn asked_for(rt: &HostRuntime) -> Result<(Asked, Counted), Ended> {
-    let recording = recording_of(rt)?;
-    let scraping = scraping_of(rt)?;
-    Ok((recording, scraping))
-}
-
 // The folder of the settings, which was entered: what an operator has written goes there.
 fn folder_here(rt: &HostRuntime) -> Result<FileFolder<HostRuntime>, NoMemory> {
     let alloc = rt.alloc();
     Ok(FileFolder::new(alloc, *rt, Text::copy_of(alloc, ".")?))
+}
+
+// The files of an operator.
+type Files = FileShelf<FileStore<HostRuntime>, FileFolder<HostRuntime>>;
+
+// What else is asked for: the files of an operator, and by variables a record and a port of counts.
+fn asked_for(rt: &HostRuntime) -> Result<(Files, Asked, Counted), Ended> {
+    let Ok(folder) = folder_here(rt) else {
+        return Err(Ended::Served(Served::NoMemory));
+    };
+    let files = FileShelf::new(FileStore::new(rt.alloc(), *rt), folder);
+    let recording = recording_of(rt)?;
+    let scraping = scraping_of(rt)?;
+    Ok((files, recording, scraping))
 }
 
 /// Serves the network of these settings, whose files `store` reads, until a signal ends the process, or an operator's
@@ -218,11 +225,7 @@ where
     let alloc = rt.alloc();
     let mut spawner: Spawner<R> = Spawner::Threads(ThreadSpawner::new(threads, alloc));
     let mut told = None;
-    let folder = match folder_here(rt) {
-        Ok(folder) => folder,
-        Err(_) => return Ended::Served(Served::NoMemory),
-    };
-    let (mut recording, mut scraping) = match asked_for(rt) {
+    let (files, mut recording, mut scraping) = match asked_for(rt) {
         Ok(asked) => asked,
         Err(ended) => return ended,
     };
@@ -234,7 +237,7 @@ where
         &mut NamedPorts::new(*rt, SocketPorts::new(*rt, alloc, address)),
         &mut spawner,
         &mut WallClock::new(*rt),
-        FileShelf::new(FileStore::new(alloc, *rt), folder),
+        files,
         InputSource::new(Patient::new(*rt, rt.reader())),
         Answers::new(*rt, OutputSink::new(Patient::new(*rt, rt.stdout()))),
         &mut StandardError::new(*rt),
