@@ -1,4 +1,6 @@
 pub mod Folds
+pub mod Counted
 pub mod Tells
 pub mod Handing
+pub mod Countings
 pub mod Crossing

@@ -75,9 +75,13 @@ fn told_outcome(acted: &Acted) -> Option<&Outcome>
 fn count(plant: &Plant, counts: &mut Counts, noting: Option<Noting>, acted: &Acted)
     ensures { (w : Whole) (e : Option Happening) → noting ≡ option_map (noting_of w) e → CountsSo (turn_by w e (told_outcome acted.now) (whole plant.now).said) counts.old counts.new }
 {
-    if let (Some(noting), Some(outcome)) = (noting, told_outcome(acted)) {
-        counts.count(noting.noted, outcome, noting.taken, plant.said());
-    }
+    let Some(noting) = noting else {
+        return;
+    };
+    let Some(outcome) = told_outcome(acted) else {
+        return;
+    };
+    counts.count(noting.noted, outcome, noting.taken, plant.said());
 }
 
 /// Does an act of the network, and keeps and counts what is told of it.
