@@ -1,0 +1,3 @@
+mod PeerLemmas
+mod BudgetLemmas
+mod CauseLemmas
