@@ -1,5 +1,5 @@
 -- No more is told than may be.
-use Rattle.std.proofs.Common.{◌≡◌, ◌≤◌, ◌+◌, ◌-◌, ◌*◌, ◌&&◌, ℕ, nat_lt, Bool, true, false, cond, max, min, not, List, [], ◌∷◌, arith, subst, sym}
+use Rattle.std.proofs.Common.{◌≡◌, ◌≤◌, ◌+◌, ◌-◌, ◌*◌, ◌&&◌, ℕ, nat_lt, Bool, true, false, cond, max, min, not, List, [], ◌∷◌, arith, if◌then◌else◌, subst, sym}
 use Rattle.std.proofs.lemmas.Bool.Decides.{nat_tests}
 use Rattle.dom_base.specs.declared.names.Tick.{Tick}
 use Rattle.plant_notices.specs.declared.TheConstants.{A_SECOND, AT_ONCE}
@@ -15,9 +15,9 @@ one_taken room at now order = grind (arith, nat_tests)
 later : (at now : ℕ) → at ≤ now → max at now ≡ now
 later at now order = grind (arith, nat_tests)
 
-earlier : (from then until : ℕ) (xs : List (Level × Tick)) → from ≤ then → InOrder then xs until → InOrder from xs until
-earlier from then until [] before order = omega (arith, before, order)
-earlier from then until (x ∷ xs) before order = (omega (arith, before, order.0), order.1)
+earlier : (from mid until : ℕ) (xs : List (Level × Tick)) → from ≤ mid → InOrder mid xs until → InOrder from xs until
+earlier from mid until [] before order = omega (arith, before, order)
+earlier from mid until (x ∷ xs) before order = (omega (arith, before, order.0), order.1)
 
 ends_later : (from until : ℕ) (xs : List (Level × Tick)) → InOrder from xs until → from ≤ until
 ends_later from until [] order = order
