@@ -31,7 +31,7 @@ module _ (b : Budget) (now : Tick) (xs : List (Level × Tick)) (until : ℕ) (be
   left = record { room = room_at b now - 1; at = record { 0 = max b.at.0 now.0 } }
 
   one_more : (f : Bool) → cond ((if f then true else nat_lt 0 (room_at b now)) && not f) 1 0 + told_in (if f then b else left) xs ≤ most b until
-  one_more true = rest b (earlier b.at.0 now.0 until xs before order)
+  one_more true = let same : told_in b xs ≤ most b until = rest b (earlier b.at.0 now.0 until xs before order) in omega (arith, same)
   one_more false =
       let same : max b.at.0 now.0 ≡ now.0 = later b.at.0 now.0 before in
       let behind : told_in left xs ≤ most left until = rest left (subst (λ (n : ℕ). InOrder n xs until) (sym same) order) in
