@@ -1,0 +1,4 @@
+-- for readers
+pub mod Logs
+-- inner
+pub mod Fields
