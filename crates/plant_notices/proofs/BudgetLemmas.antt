@@ -5,7 +5,7 @@ use Rattle.dom_base.specs.declared.names.Tick.{Tick}
 use Rattle.plant_notices.specs.declared.TheConstants.{A_SECOND, AT_ONCE}
 use Rattle.plant_notices.specs.declared.budget.Budget.{Budget}
 use Rattle.plant_notices.specs.declared.levels.Level.{Level}
-use Rattle.plant_notices.specs.Budgets.{admitted, budget_after, is_fault, room_at}
+use Rattle.plant_notices.specs.Budgets.{is_fault, room_at}
 use Rattle.plant_notices.specs.Laws.{InOrder, told_in}
 
 -- one notice that is no fault: what it takes, and what is left

@@ -1,5 +1,5 @@
 -- How many notices are told.
-use Rattle.std.specs.Prelude.{ℕ, ◌+◌, ◌-◌, ◌*◌, ◌==◌, nat_lt, min, max, Bool, true, not, if◌then◌else◌}
+use Rattle.std.specs.Prelude.{ℕ, ◌+◌, ◌-◌, ◌*◌, nat_lt, min, max, Bool, true, if◌then◌else◌}
 use Rattle.dom_base.specs.declared.names.Tick.{Tick}
 use Rattle.plant_notices.specs.declared.TheConstants.{A_SECOND, AT_ONCE}
 use Rattle.plant_notices.specs.declared.budget.Budget.{Budget}

@@ -1,5 +1,5 @@
 -- When a table is told as full.
-use Rattle.std.specs.Prelude.{ℕ, ◌-◌, ◌*◌, ◌/◌, nat_le, nat_lt, Bool, true, false, cond, ◌||◌, Option, Some, None, if◌then◌else◌}
+use Rattle.std.specs.Prelude.{ℕ, ◌-◌, ◌*◌, ◌/◌, nat_le, nat_lt, Bool, true, false, ◌||◌, Option, Some, None, if◌then◌else◌}
 use Rattle.dom_base.specs.declared.names.Tick.{Tick}
 use Rattle.plant_notices.specs.declared.TheConstants.{FULL_SECONDS}
 use Rattle.plant_notices.specs.declared.fills.Fill.{Fill}

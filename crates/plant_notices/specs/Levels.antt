@@ -6,7 +6,7 @@ use Rattle.plant_notices.specs.declared.levels.Level.TheVariants as levels
 use Rattle.plant_notices.specs.declared.levels.Level.TheVariants.{Critical, Error, Warning, Info}
 use Rattle.plant_notices.specs.declared.notices.Ending.TheVariants.{InputEnded}
 use Rattle.plant_notices.specs.declared.notices.Notice.{Notice}
-use Rattle.plant_notices.specs.declared.notices.Notice.TheVariants.{Up, Down, Lost, LinkUp, LinkDown, Loaded, GenerationsFull, PendingFull, PendingFree, KeysFull, KeysFree, PortFails, Ended, Stopped, LeftOut}
+use Rattle.plant_notices.specs.declared.notices.Notice.TheVariants.{Down, Lost, LinkDown, GenerationsFull, PendingFull, KeysFull, PortFails, Ended, LeftOut}
 use Rattle.plant_notices.specs.declared.notices.Task.TheVariants.{Record}
 
 abbrev pub number_of : Level → ℕ
