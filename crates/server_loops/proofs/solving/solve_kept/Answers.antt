@@ -4,7 +4,7 @@ use Rattle.te_links.specs.Rows.{Rows}
 use Rattle.cost_cache.specs.Keys.{key_of}
 use Rattle.cost_cache.specs.Entries.{IsGood}
 use Rattle.server_loops.proofs.Righting.{right_after}
-use Rattle.server_loops.proofs.solving.solve_domain.Goals as goal
+use Rattle.server_loops.proofs.solving.solve_kept.Goals as goal
 
 pub returns-clause-right : goal.returns-clause-right
 returns-clause-right c = λ known knows right.
