@@ -20,7 +20,9 @@ use Rattle.plant_text.specs.declared.operator_line.OperatorLine.{OperatorLine}
 use Rattle.plant_text.specs.declared.operator_line.OperatorLine.TheVariants as line
 use Rattle.survey_figures.specs.declared.surveyed.Surveyed.{Surveyed}
 use Rattle.te_text.specs.TopologyText.{topology_text}
-use Rattle.server_loops.specs.Shelves.{Shelved}
+use Rattle.server_loops.specs.Shelves.{AddsWhole, Keeps, Shelved}
+use Rattle.server_loops.specs.declared.shelves.ShelfError.{ShelfError}
+use Rattle.server_loops.specs.declared.shelves.ShelfError.TheVariants.{NotMade, NotWritten, NoMemory as NoRoom}
 use Rattle.plant_text.specs.declared.operator_line.Subject.{Subject}
 use Rattle.plant_text.specs.declared.settings.NetworkParts.{NetworkParts}
 use Rattle.plant_text.specs.OperatorLines.{line_in}
@@ -33,10 +35,10 @@ use Rattle.plant_model.specs.declared.outcome.Refused.TheVariants.{NoSuchPeer}
 use Rattle.transcript.specs.Lines.{answer_line}
 use Rattle.ted_watch.specs.declared.shown.Shown.{Shown}
 use Rattle.server_loops.specs.Charts.{Asks, Call, Charted, Current, Did, Mapped, Saw, Sees, current_of}
-use Rattle.server_loops.specs.Operating.{Context, Does, DoesAsked, DoesEvent, DoesShut, DoesShow, IsEndOf, IsFirstPart, IsUnmoved, IsWritten, LeavesShelf, Loads, Past, Publishes, ShowsMapped, ShowsSurvey, Progress, WithFile, Work, WritesFile, has_slash, has_subject, is_done, line_most, past, shown_by}
-use Rattle.server_loops.specs.OperatorSteps.{Acted, Asked, DoesFile, DoesTask, DoesText, EndsAs, answered, Goes, IsBegun, IsFile, IsPartDone, Refuses, Wrote, shut_task, task_of, text_of}
+use Rattle.server_loops.specs.Operating.{Context, Does, DoesAsked, DoesEvent, DoesShut, DoesShow, IsCut, IsDone, IsEndOf, IsFirstPart, IsUnmoved, IsWritten, LeavesShelf, Loads, Past, Publishes, ShowsMapped, ShowsSurvey, Progress, WithFile, Work, WritesFile, has_slash, has_subject, is_done, line_most, past, shown_by}
+use Rattle.server_loops.specs.OperatorSteps.{Acted, Asked, DoesFile, DoesTask, DoesText, EndsAs, answered, Goes, IsBegun, IsFile, IsPartDone, Refuses, TellsKept, Wrote, shut_task, task_of, text_of}
 use Rattle.network_files.specs.Faults.{fault_text}
-use Rattle.server_loops.specs.Texts.{bad_network_text, read_fault_text, too_large_text}
+use Rattle.server_loops.specs.Texts.{bad_network_text, done_text, no_file_text, read_fault_text, too_large_text, write_fault_text}
 use Rattle.server_loops.specs.declared.lines.Task.{Task}
 use Rattle.server_loops.specs.declared.lines.Task.TheVariants.{Write}
 use Rattle.server_loops.specs.declared.operating.Operated.{Operated}
@@ -515,6 +517,21 @@ lacks_says number asked n run lacks = rw lacks refl
 
 -- ---- new files
 
+-- what came of a file that was to be kept is said, or memory ran out
+pub kept_told : (number : ℕ) (name octets bytes : List ℕ) (s t : Shelved) (kept : Result (Unit {0}) ShelfError) (r : Result (Unit {0}) Operated) (before after : List ℕ) → bytes ≡ octets → Keeps s t name bytes kept → OnOk r (TellsKept number name kept before after) → IfErr r (λ (e : Operated). e ≡ NoMemory) → Wrote number name octets s t r before after
+kept_told number name octets bytes s t (Ok u) (Ok v) before after is keeps told lack = (done_text number, inl (subst (λ (b : List ℕ). AddsWhole s.contents t.contents name b) is keeps, refl), told)
+kept_told number name octets bytes s t (Ok u) (Err end) before after is keeps told lack = (lack, inr (done_text number, inl (subst (λ (b : List ℕ). AddsWhole s.contents t.contents name b) is keeps, refl)))
+kept_told number name octets bytes s t (Err NotMade) (Ok v) before after is keeps told lack = (no_file_text number name, inr (inl (keeps.0, keeps.1, refl)), told)
+kept_told number name octets bytes s t (Err NotMade) (Err end) before after is keeps told lack = (lack, inr (no_file_text number name, inr (inl (keeps.0, keeps.1, refl))))
+kept_told number name octets bytes s t (Err NotWritten) (Ok v) before after is keeps told lack = (write_fault_text number name, inr (inr (keeps.0, keeps.1, refl)), told)
+kept_told number name octets bytes s t (Err NotWritten) (Err end) before after is keeps told lack = (lack, inr (write_fault_text number name, inr (inr (keeps.0, keeps.1, refl))))
+kept_told number name octets bytes s t (Err NoRoom) (Ok v) before after is keeps told lack = absurd told
+kept_told number name octets bytes s t (Err NoRoom) (Err end) before after is keeps told lack = (lack, inl keeps)
+
+-- no text is made, since memory ran out
+pub unmade : (number : ℕ) (name octets : List ℕ) (s : Shelved) (end : Operated) (before after : List ℕ) → end ≡ NoMemory → Wrote number name octets s s (Err end) before after
+unmade number name octets s end before after is = (is, inl refl)
+
 -- what came of a new file is told, or memory ran out
 module _ (number : ℕ) (at : As) (name : List ℕ) (found : ℕ × Rows) (octets : List ℕ) (is : topology_text found.1 ≡ octets) (plain : has_slash name ≡ false) (s t : Shelved) where
   written : (text : List ℕ) → IsWritten number name octets s t text → WritesFile number at name s t (record { calls = Mapped at (Ok (Some found)) ∷ []; shown = []; text = text })
@@ -538,3 +555,14 @@ one_differs xs ys x more same = omega (arith, ap (λ (l : List _). length l) mor
 
 pub asked_differs : (at : As) (found : Option (ℕ × Rows)) (old new : Charted) → Asked at (Ok found) old new → new.calls ≡ old.calls → ⊥
 asked_differs at found old new asked same = one_differs old.calls new.calls (Mapped at (Ok found)) asked.0 same
+
+-- ---- the end of a line
+
+-- a line that was not done
+pub cut_by : (x : Context) (number : ℕ) (text : List ℕ) (a b : Progress) → LeavesShelf (line_in x.network text) a b → (b.past ≡ a.past) ⊎ IsPartDone (Does x number text a b) a.past b.past → IsUnmoved a b ⊎ IsCut x number text a b
+cut_by x number text a b leaves (inl same) = inl (unmoved_by (line_in x.network text) a b leaves same)
+cut_by x number text a b leaves (inr p) = inr (record { work = p.work; does = p.does; part = p.part; shelf = leaves })
+
+-- a line that was done
+pub done_by : (x : Context) (number : ℕ) (text : List ℕ) (a b : Progress) (spent : Option ℕ) (told : List ℕ) → LeavesShelf (line_in x.network text) a b → a.faults ≤ b.faults → Goes (Does x number text a b) (Ok tt) a.past b.past spent [] told → IsDone x number text a b told
+done_by x number text a b spent told leaves later goes = record { work = goes.0.work; does = goes.0.does; calls = goes.0.calls; shown = goes.0.shown; later = later; shelf = leaves; said = goes.0.told }

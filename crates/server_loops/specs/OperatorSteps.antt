@@ -23,7 +23,9 @@ use Rattle.ted_watch.specs.declared.shown.Shown.{Shown}
 use Rattle.server_loops.specs.Charts.{Call, Charted, Did, Mapped}
 use Rattle.server_loops.specs.Operating.{AreSaid, AreTaken, ChangesFile, Context, DoesEvent, DoesShow, HasCause, HasNoEnd, IsCut, IsDone, IsEndOf, IsPartOf, IsReadOut, IsSaid, IsUnmoved, IsWritten, LoadsFile, Past, Says, Side, Sides, Progress, Stops, WithFile, Work, WritesFile, line_most}
 use Rattle.server_loops.specs.Shelves.{Shelved}
-use Rattle.server_loops.specs.Texts.{bad_line_text, bad_network_text, read_fault_text, stop_text, too_large_text}
+use Rattle.server_loops.specs.declared.shelves.ShelfError.{ShelfError}
+use Rattle.server_loops.specs.declared.shelves.ShelfError.TheVariants.{NotMade, NotWritten}
+use Rattle.server_loops.specs.Texts.{bad_network_text, done_text, no_file_text, read_fault_text, stop_text, too_large_text, write_fault_text}
 use Rattle.server_loops.specs.declared.lines.Task.{Task}
 use Rattle.server_loops.specs.declared.lines.Task.TheVariants.{File, Make, NoPeer, Show, Stop, Write}
 use Rattle.server_loops.specs.declared.operating.Operated.{Operated}
@@ -88,6 +90,13 @@ IsFile files number name (Ok None) faults now failed_at before after =
     (Rose faults now × (failed_at ≡ name) × (after ≡ before ++ read_fault_text number))
     ⊎ (IsLongFile files name change_file_most × (after ≡ before ++ too_large_text number name))
 IsFile files number name (Err end) faults now failed_at before after = end ≡ NoMemory
+
+-- what is said of a file that was to be kept
+abbrev pub TellsKept : ℕ → List ℕ → Result (Unit {0}) ShelfError → List ℕ → List ℕ → Type 0
+TellsKept number name (Ok u) before after = after ≡ before ++ done_text number
+TellsKept number name (Err NotMade) before after = after ≡ before ++ no_file_text number name
+TellsKept number name (Err NotWritten) before after = after ≡ before ++ write_fault_text number name
+TellsKept number name lack before after = ⊥
 
 -- What came of a new file is said; or memory ran out, before anything came of it or behind that.
 abbrev pub Wrote : ℕ → List ℕ → List ℕ → Shelved → Shelved → Result (Unit {0}) Operated → List ℕ → List ℕ → Type 0

@@ -3,9 +3,10 @@ ghost use Rattle.std.specs.Prelude.{◌≡◌, ◌++◌, IfErr, List, None, OnOk
 ghost use Rattle.te_text.specs.TopologyText.{topology_text};
 ghost use Rattle.ted_watch.specs.declared.shown.Shown.{Shown};
 ghost use Rattle.server_loops.specs.Operating.{WritesFile, has_slash, past};
-ghost use Rattle.server_loops.specs.OperatorSteps.{Goes, Wrote};
+ghost use Rattle.transcript.specs.Lines.{numbered};
+ghost use Rattle.server_loops.specs.OperatorSteps.{Goes, TellsKept, Wrote};
 ghost use Rattle.server_loops.specs.Sites.{Stays};
-ghost use Rattle.server_loops.specs.Texts.{bad_name_text};
+ghost use Rattle.server_loops.specs.Texts.{done_text};
 ghost use Rattle.server_loops.specs.declared.operating.Operated.TheVariants.{NoMemory};
 
 use crate::asking::ask;
@@ -27,13 +28,40 @@ fn has_slash(name: &str) -> bool
     name.as_bytes().iter().any(|byte| *byte == b'/')
 }
 
-// What is said of a name that is no plain one.
-fn tell_bad_name(number: u32, name: &str, into: &mut Vec<u8>) -> Result<(), Operated>
-    ensures told { OnOk result (into.new.items ≡ into.old.items ++ bad_name_text number name.now) }
+// Words, and the name of a file behind them.
+fn tell_named(number: u32, words: &[u8], name: &str, into: &mut Vec<u8>) -> Result<(), Operated>
+    ensures told { OnOk result (into.new.items ≡ into.old.items ++ numbered number (words.now ++ name.now)) }
     ensures lack { IfErr result (λ end. end ≡ NoMemory) }
 {
-    write_named(number, b"bad name ", name.as_bytes(), into)?;
+    write_named(number, words, name.as_bytes(), into)?;
     Ok(())
+}
+
+// The file is there.
+fn tell_done(number: u32, into: &mut Vec<u8>) -> Result<(), Operated>
+    ensures told { OnOk result (into.new.items ≡ into.old.items ++ done_text number) }
+    ensures lack { IfErr result (λ end. end ≡ NoMemory) }
+{
+    write_words(number, b"ok", into)?;
+    Ok(())
+}
+
+// What came of a new file.
+fn tell_kept(
+    number: u32,
+    name: &str,
+    kept: Result<(), ShelfError>,
+    into: &mut Vec<u8>,
+) -> Result<(), Operated>
+    ensures told { OnOk result (TellsKept number name.now kept into.old.items into.new.items) }
+    ensures lack { IfErr result (λ end. end ≡ NoMemory) }
+{
+    match kept {
+        Ok(()) => tell_done(number, into),
+        Err(ShelfError::NotMade) => tell_named(number, b"no new file ", name, into),
+        Err(ShelfError::NotWritten) => tell_named(number, b"write fault ", name, into),
+        Err(ShelfError::NoMemory) => Err(Operated::NoMemory),
+    }
 }
 
 // Writes a topology into a new file, and tells what came of it.
@@ -50,15 +78,8 @@ fn write_file<T: Shelf>(
     ensures faults { T.faults store.new ≡ T.faults store.old }
 {
     let text = write_topology(alloc, topology)?;
-    match store.keep(alloc, name, text.as_slice()) {
-        Ok(()) => write_words(number, b"ok", into)?,
-        Err(ShelfError::NotMade) => write_named(number, b"no new file ", name.as_bytes(), into)?,
-        Err(ShelfError::NotWritten) => {
-            write_named(number, b"write fault ", name.as_bytes(), into)?;
-        }
-        Err(ShelfError::NoMemory) => return Err(Operated::NoMemory),
-    }
-    Ok(())
+    let kept = store.keep(alloc, name, text.as_slice());
+    tell_kept(number, name, kept, into)
 }
 
 /// Writes the current topology of an element into a new file of that name.
@@ -79,7 +100,7 @@ pub(crate) fn do_write<T: Shelf, D: Chart>(
     ensures faults { T.faults store.new ≡ T.faults store.old }
 {
     if has_slash(name) {
-        return tell_bad_name(number, name, into);
+        return tell_named(number, b"bad name ", name, into);
     }
     let found = ask(desk, at)?;
     match found {
