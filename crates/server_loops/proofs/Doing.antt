@@ -535,7 +535,7 @@ unmade number name octets s end before after is = (is, inl refl)
 -- what came of a new file is told, or memory ran out
 module _ (number : ℕ) (at : As) (name : List ℕ) (found : ℕ × Rows) (octets : List ℕ) (is : topology_text found.1 ≡ octets) (plain : has_slash name ≡ false) (s t : Shelved) where
   written : (text : List ℕ) → IsWritten number name octets s t text → WritesFile number at name s t (record { calls = Mapped at (Ok (Some found)) ∷ []; shown = []; text = text })
-  written text w = inr (plain, Ok (Some found), text, refl, subst (λ (o : List ℕ). IsWritten number name o s t text) (sym is) w)
+  written text w = inr (plain, (Ok (Some found), (text, refl, subst (λ (o : List ℕ). IsWritten number name o s t text) (sym is) w)))
 
   pub wrote_goes : (r : Result (Unit {0}) Operated) (old new : Charted) (list : List Shown) (before after : List ℕ) → Asked at (Ok (Some found)) old new → Wrote number name octets s t r before after → Goes (WritesFile number at name s t) r (past old list) (past new list) new.spent before after
   wrote_goes (Ok u) old new list before after asked wrote =
@@ -545,7 +545,7 @@ module _ (number : ℕ) (at : As) (name : List ℕ) (found : ℕ × Rows) (octet
       by : (t ≡ s) ⊎ ((text : List ℕ) × IsWritten number name octets s t text) → Goes (WritesFile number at name s t) (Err end) (past old list) (past new list) new.spent before after
       by (inl same) =
           one_untold (WritesFile number at name s t) end at (Ok (Some found)) (Ok None) (record { calls = Mapped at (Ok None) ∷ []; shown = []; text = answer_line number (Err NoSuchPeer) }) [] (past old list) (past new list) new.spent before after
-          (inr (plain, Ok None, refl, same)) refl wrote.0 asked.1 asked.0 refl
+          (inr (plain, (Ok None, (refl, same)))) refl wrote.0 asked.1 asked.0 refl
       by (inr w) =
           one_untold (WritesFile number at name s t) end at (Ok (Some found)) (Ok (Some found)) (record { calls = Mapped at (Ok (Some found)) ∷ []; shown = []; text = w.0 }) [] (past old list) (past new list) new.spent before after (written w.0 w.1) refl wrote.0 asked.1 asked.0 refl
 

@@ -101,7 +101,7 @@ module _ (x : Context) where
     mid = a;
     told = [];
     lines = taken_none x 0 [] a;
-    stops = (inl refl, refl);
+    stops = (inl (refl, refl), refl);
     cause = tt;
   }
 

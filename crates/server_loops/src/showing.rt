@@ -79,8 +79,9 @@ pub(crate) fn do_show<D: Chart>(
     ensures goes { (list : List Shown) → Goes (DoesShow number subject network.now run_name.now) result (past (D.charted desk.old) list) (past (D.charted desk.new) list) (D.charted desk.new).spent into.old.items into.new.items }
     ensures stays { Stays D.is_at desk.old desk.new }
 {
-    if !has_subject(network, subject) {
-        return tell_answer(alloc, number, &Err(Refused::NoSuchPeer), into);
+    if has_subject(network, subject) {
+        show(desk, network, run_name, number, subject, into)
+    } else {
+        tell_answer(alloc, number, &Err(Refused::NoSuchPeer), into)
     }
-    show(desk, network, run_name, number, subject, into)
 }

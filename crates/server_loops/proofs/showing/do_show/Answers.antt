@@ -7,6 +7,11 @@ use Rattle.server_loops.proofs.showing.do_show.Goals as goal
 
 pub returns-then-has_subject-clause-goes : goal.returns-then-has_subject-clause-goes
 returns-then-has_subject-clause-goes g c list =
+    has_goes c.args.number c.args.subject c.args.network.now c.args.run_name.now c.show.result (past (g.D.Chart.charted c.args.desk.now) list) (past (g.D.Chart.charted c.show.new.desk) list) (g.D.Chart.charted c.show.new.desk).spent c.args.into.now.items c.show.new.into.items
+    (sym c.has_subject.ensures ∙ c.if-has_subject.true) (c.show.ensures.goes list)
+
+pub returns-clause-goes : goal.returns-clause-goes
+returns-clause-goes g c list =
     let n = c.args.network.now in
     let k = c.args.number in
     let run = c.args.run_name.now in

@@ -26,7 +26,7 @@ returns-in_err-found-clause-goes g c list =
     let s = g.T.Shelf.shelved c.args.store.now in
     let into = c.args.into.now.items in
     rw (p.1, p.2) (asked_goes_out (WritesFile k at c.args.name.now s s) at c.in_err-found.field-0.0 (g.D.Chart.charted c.args.desk.now) (g.D.Chart.charted c.ask.new.desk) list (Ok None)
-    (record { calls = Mapped at (Ok None) ∷ []; shown = []; text = answer_line k (Err NoSuchPeer) }) [] into into (inr (sym c.has_slash.ensures ∙ c.if-has_slash.false, Ok None, refl, refl)) refl c.in_err-found.ensures.asked)
+    (record { calls = Mapped at (Ok None) ∷ []; shown = []; text = answer_line k (Err NoSuchPeer) }) [] into into (inr (sym c.has_slash.ensures ∙ c.if-has_slash.false, (Ok None, (refl, refl)))) refl c.in_err-found.ensures.asked)
 
 pub returns-in-Some-clause-goes : goal.returns-in-Some-clause-goes
 returns-in-Some-clause-goes g c list =
@@ -48,7 +48,7 @@ returns-in-None-clause-goes g c list =
     let new = g.D.Chart.charted c.ask.new.desk in
     let asked : Asked at (Ok None) old new = rw c.in-None.is at c.in_ok-found.ensures.asked in
     asked_told (WritesFile k at c.args.name.now s s) at (Ok None) (answer_line k (Err NoSuchPeer)) c.tell_answer.result old new list c.args.into.now.items c.tell_answer.new.into.items
-    (inr (sym c.has_slash.ensures ∙ c.if-has_slash.false, Ok None, refl, refl)) asked.1 asked.0 c.tell_answer.ensures.told c.tell_answer.ensures.lack
+    (inr (sym c.has_slash.ensures ∙ c.if-has_slash.false, (Ok None, (refl, refl)))) asked.1 asked.0 c.tell_answer.ensures.told c.tell_answer.ensures.lack
 
 pub returns-in-Some-clause-unasked : goal.returns-in-Some-clause-unasked
 returns-in-Some-clause-unasked g c same =

@@ -11,5 +11,5 @@ returns-in_err-text-clause-wrote g c =
 
 pub returns-clause-wrote : goal.returns-clause-wrote
 returns-clause-wrote g c =
-    kept_told c.args.number c.args.name.now (topology_text c.args.topology.now) c.as_slice.result.now (g.T.Shelf.shelved c.args.store.now) (g.T.Shelf.shelved c.keep.new.self) c.keep.result c.tell_kept.result c.args.into.now.items c.tell_kept.new.into.items
-    (c.as_slice.ensures ∙ c.in_ok-text.ensures.text) c.keep.ensures.keeps c.tell_kept.ensures.told c.tell_kept.ensures.lack
+    kept_told c.args.number c.args.name.now (topology_text c.args.topology.now) c.as_slice.result.now (g.T.Shelf.shelved c.args.store.now) (g.T.Shelf.shelved c.keep-kept.new.self) c.keep-kept.result c.tell_kept.result c.args.into.now.items c.tell_kept.new.into.items
+    (c.as_slice.ensures ∙ c.in_ok-text.ensures.text) c.keep-kept.ensures.keeps c.tell_kept.ensures.told c.tell_kept.ensures.lack
