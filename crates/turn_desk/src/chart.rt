@@ -15,6 +15,7 @@ use plant_network::{Act, Acted};
 use server_loops::{Chart, DeskRefused};
 use std::sync::{Arc, Wait};
 use std::time::Clock;
+use survey_figures::Surveyed;
 use te_links::Topology;
 
 type Found = Result<Option<(u64, Arc<Topology>)>, NoMemory>;
@@ -58,6 +59,10 @@ impl<R: Wait + Clock> Chart for TurnDesk<R> {
             Ok(acted) => mapped_in(acted),
             Err(_number) => Ok(None),
         }
+    }
+
+    fn survey(&mut self) -> Result<Result<Surveyed, NoMemory>, u64> {
+        TurnDesk::survey(self)
     }
 
     fn halt(&mut self) -> Result<(), u64>
