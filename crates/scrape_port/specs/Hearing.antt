@@ -1,6 +1,7 @@
 -- What is heard of a connection, until it is known what it asks for.
-use Rattle.std.specs.Prelude.{◌≡◌, ◌≢◌, ◌⊎◌, ◌+◌, ◌<◌, ◌≤◌, ℕ, nat_lt, Bool, List, [], ◌++◌, length, Result, Ok, Err}
-use Rattle.std.specs.Io.KnownBytes.{Consumes, IsAtEnd}
+use Rattle.std.specs.Prelude.{◌≡◌, ◌≢◌, ◌⊎◌, ◌+◌, ◌<◌, ◌≤◌, ℕ, nat_lt, Bool, List, [], ◌++◌, length, Result, Ok, Err, Some, None}
+use Rattle.std.specs.declared.option.Option.{Option}
+use Rattle.std.specs.Io.KnownBytes.{Consumes}
 use Rattle.dom_edge.specs.Causes.{Rose, counted_on}
 use Rattle.dom_edge.specs.Heeding.{Sides}
 use Rattle.httparse.specs.Grammar.{ReadsRequest, RequestHead}
@@ -37,18 +38,23 @@ pub record IsWhole (octets : List ℕ) (a : Asked) : Type 0 where
   pub front : List ℕ
   pub piece : List ℕ
   pub are : octets ≡ front ++ piece
-  pub open : IsOpen front
+  pub is_open : IsOpen front
   pub ends : a ≢ More
   pub cause : asking.HasCause octets a
   pub found : (head : RequestHead) (rest : List ℕ) → ReadsRequest octets head rest → length head.fields ≤ FIELDS_MAX → a ≡ asked_for head
 
 -- ---- a turn
 
+-- where the octets of a stream are told, none is left
+abbrev pub IsReadOut : Option (List ℕ) → Option (List ℕ) → Type 0
+IsReadOut None new = Unit {0}
+IsReadOut (Some octets) new = new ≡ Some []
+
 -- what the octets ask for with this piece behind them; or why nothing was asked for
 abbrev pub Gives : Result Asked Unheard → List ℕ → List ℕ → List ℕ → Sides → Sides → Type 0
 Gives (Ok More) octets more piece old new = (more ≡ octets ++ piece) × IsOpen more
 Gives (Ok a) octets more piece old new = (more ≡ octets ++ piece) × IsWhole more a
-Gives (Err PeerEnd) octets more piece old new = (piece ≡ []) × Rose old.reading.ends new.reading.ends × IsAtEnd new.reading.left
+Gives (Err PeerEnd) octets more piece old new = (piece ≡ []) × Rose old.reading.ends new.reading.ends × IsReadOut old.reading.left new.reading.left
 Gives (Err ReadFault) octets more piece old new = (piece ≡ []) × Rose old.reading.faults new.reading.faults
 Gives (Err NoMemory) octets more piece old new = Unit {0}
 Gives (Err Slow) octets more piece old new = ⊥
@@ -74,7 +80,7 @@ IsHeard (Err why) taken = IsOpen taken
 -- why nothing was asked for
 abbrev pub HasReason : ℕ → ℕ → Result Asked Unheard → Clocked → Clocked → Sides → Sides → Type 0
 HasReason turns begun (Ok a) c d old new = Unit {0}
-HasReason turns begun (Err PeerEnd) c d old new = Rose old.reading.ends new.reading.ends × IsAtEnd new.reading.left
+HasReason turns begun (Err PeerEnd) c d old new = Rose old.reading.ends new.reading.ends × IsReadOut old.reading.left new.reading.left
 HasReason turns begun (Err ReadFault) c d old new = Rose old.reading.faults new.reading.faults
 HasReason turns begun (Err Slow) c d old new = begun + HEAD_SECONDS < d.last
 HasReason turns begun (Err Turns) c d old new = d.readings ≡ counted_on (turns + 1) c.readings

@@ -44,16 +44,28 @@ pub(crate) fn refuse<L: Wire>(alloc: Global, link: &mut L, why: Refusal) -> Scra
     }
 }
 
-/// Takes what still comes, and drops it, until nothing comes. A connection that ends with octets unread takes its answer away from the peer.
-pub(crate) fn drop_rest<L: Wire>(link: &mut L)
+// Reads once, and drops what came. Whether something came.
+#[tactic(auto, using(crate::proofs::Dropping::got_dropped))]
+fn drop_some<L: Wire>(link: &mut L) -> bool
     ensures drops { Drops (L.reading link.old).left (L.reading link.new).left }
     ensures writing { L.writing link.new ≡ L.writing link.old }
 {
     let mut buffer = [0u8; PIECE];
+    match link.read(&mut buffer) {
+        Got::Bytes(_) => true,
+        Got::Quiet | Got::End | Got::Failed => false,
+    }
+}
+
+/// Takes what still comes, and drops it, until nothing comes. A connection that ends with octets unread takes its answer away from the peer.
+#[tactic(auto, using(crate::proofs::Dropping::none_dropped, crate::proofs::Dropping::more_dropped))]
+pub(crate) fn drop_rest<L: Wire>(link: &mut L)
+    ensures drops { Drops (L.reading link.old).left (L.reading link.new).left }
+    ensures writing { L.writing link.new ≡ L.writing link.old }
+{
     for _drop in 0..DROPS {
-        match link.read(&mut buffer) {
-            Got::Bytes(_) => {}
-            Got::Quiet | Got::End | Got::Failed => return,
+        if !drop_some(link) {
+            return;
         }
     }
 }

@@ -16,6 +16,7 @@ use scrape_http::Asked;
 use std::alloc::Global;
 
 // Tells the counts, which are surveyed anew where those that were told last are no longer young.
+#[tactic(auto, using(crate::proofs::Answered::tells_by))]
 fn tell<L: Wire, C: Clock, D: Surveyor>(
     alloc: Global,
     page: &mut Page,

@@ -14,8 +14,9 @@ use std::alloc::Global;
 const PIECE: usize = 1_024;
 
 // Reads once. What all octets ask for that came.
+#[tactic(auto, using(crate::proofs::Heads::quiet, crate::proofs::Heads::at_end, crate::proofs::Heads::failed, crate::proofs::Heads::came, crate::proofs::Heads::unkept))]
 fn turn<L: Wire>(link: &mut L, octets: &mut Vec<u8>) -> Result<Asked, Unheard>
-    requires open { IsOpen octets.old.items }
+    requires begun { IsOpen octets.old.items }
     ensures turned { IsTurned result octets.old.items octets.new.items (sides (L.reading link.old) (L.writing link.old)) (sides (L.reading link.new) (L.writing link.new)) }
 {
     let mut buffer = [0u8; PIECE];
@@ -40,6 +41,7 @@ fn is_late(begun: Tick, now: Tick) -> bool
 }
 
 /// Reads until the head of a request is whole, or can't be, in so many turns at most. The clock is read before the first turn and behind each.
+#[tactic(auto, using(crate::proofs::Heads::none_heard, crate::proofs::Heads::heard_out, crate::proofs::Heads::heard_late, crate::proofs::Heads::heard_on, crate::proofs::Heads::all_heard))]
 pub(crate) fn hear<L: Wire, C: Clock>(
     alloc: Global,
     clock: &mut C,
@@ -51,9 +53,9 @@ pub(crate) fn hear<L: Wire, C: Clock>(
     let begun = clock.now();
     let mut octets = Vec::new(alloc);
     for _turn in 0..turns {
-        match turn(link, &mut octets)? {
-            Asked::More => {}
-            asked => return Ok(asked),
+        match turn(link, &mut octets) {
+            Ok(Asked::More) => {}
+            end => return end,
         }
         if is_late(begun, clock.now()) {
             return Err(Unheard::Slow);

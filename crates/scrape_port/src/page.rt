@@ -1,11 +1,13 @@
 //! What is told of a server, and kept for a while.
 ghost use Rattle.std.specs.Prelude.{◌≡◌, IfOk, None};
-ghost use Rattle.scrape_port.specs.Pages.{IsSamePage, Renews, Stays, SurveysAnew, blank_page, is_young, kept_text, page_text};
+ghost use Rattle.scrape_http.specs.Answers.{counts_text};
+ghost use Rattle.survey_lines.specs.Metrics.{metrics_text};
+ghost use Rattle.scrape_port.specs.Pages.{IsSamePage, Renews, Stays, SurveysAnew, blank_page, is_young, kept_text};
 
 use crate::OLD_SECONDS;
 use crate::surveyor::{Surveyor, Unsurveyed};
 use dom_base::{NoMemory, Tick};
-use plant_text::Network;
+use plant_text::{Network, NetworkParts};
 use scrape_http::push_counts;
 use std::alloc::Global;
 use std::marker::Model;
@@ -36,6 +38,23 @@ impl Model for Page {
     ghost view = { λ p. record { parts = p.network; has_record = p.has_record; last = kept_of p.kept } };
 }
 
+// The answer with the counts of a survey.
+#[tactic(auto, using(crate::proofs::Renewing::whole_text))]
+fn text_of(
+    alloc: Global,
+    parts: &NetworkParts,
+    has_record: bool,
+    surveyed: &Surveyed,
+) -> Result<Vec<u8>, NoMemory>
+    ensures { IfOk result (λ text. text.items ≡ counts_text (metrics_text parts.now surveyed.now has_record)) }
+{
+    let mut counts = Vec::new(alloc);
+    push_metrics(parts, surveyed, has_record, &mut counts)?;
+    let mut text = Vec::new(alloc);
+    push_counts(&counts, &mut text)?;
+    Ok(text)
+}
+
 impl Page {
     /// Nothing was told yet. Of a record it tells where there is one.
     pub fn new(network: Network, has_record: bool) -> Self
@@ -58,22 +77,6 @@ impl Page {
         }
     }
 
-    // The answer with the counts of this survey.
-    fn text_of(&self, alloc: Global, surveyed: &Surveyed) -> Result<Vec<u8>, NoMemory>
-        ensures { IfOk result (λ text. text.items ≡ page_text self.now surveyed.now) }
-    {
-        let mut counts = Vec::new(alloc);
-        push_metrics(
-            self.network.parts(),
-            surveyed,
-            self.has_record,
-            &mut counts,
-        )?;
-        let mut text = Vec::new(alloc);
-        push_counts(&counts, &mut text)?;
-        Ok(text)
-    }
-
     // Surveys, and keeps what is to be told of it.
     fn survey<D: Surveyor>(
         &mut self,
@@ -86,7 +89,7 @@ impl Page {
         ensures settings { IsSamePage self.old self.new }
     {
         let surveyed = surveyor.survey()?;
-        match self.text_of(alloc, &surveyed) {
+        match text_of(alloc, self.network.parts(), self.has_record, &surveyed) {
             Ok(text) => {
                 self.kept = Some(Kept { at: now, text });
                 Ok(())

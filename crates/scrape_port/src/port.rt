@@ -15,6 +15,7 @@ use std::alloc::Global;
 const LINK_TURNS: u64 = u64::MAX;
 
 // Accepts once, and answers a connection that came.
+#[tactic(auto, using(crate::proofs::Turning::idle, crate::proofs::Turning::answered))]
 fn accept_once<K: Listener, C: Clock, D: Surveyor>(
     alloc: Global,
     page: &mut Page,
@@ -39,6 +40,7 @@ fn accept_once<K: Listener, C: Clock, D: Surveyor>(
 }
 
 /// Accepts once in each turn, and answers the connection that came to its end.
+#[tactic(auto, using(crate::proofs::Turning::none_scraped, crate::proofs::Turning::one_scraped))]
 pub fn serve_scrapes<K: Listener, C: Clock, D: Surveyor>(
     alloc: Global,
     page: &mut Page,

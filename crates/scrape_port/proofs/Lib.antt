@@ -1,0 +1,5 @@
+mod Dropping
+mod Renewing
+mod Heads
+mod Answered
+mod Turning
