@@ -60,6 +60,7 @@ fn answer<L: Wire, C: Clock, D: Surveyor>(
 
 /// Hears what a connection asks for, in so many turns at most, and answers it: `GET /metrics` with the counts of the server, anything
 /// else with why it is refused. Whose head is not whole in five seconds is not answered. What comes behind the head is dropped.
+#[tactic(auto, using(crate::proofs::Answered::scrapes_by, crate::proofs::Answered::unheard_by))]
 pub fn scrape<L: Wire, C: Clock, D: Surveyor>(
     alloc: Global,
     page: &mut Page,
