@@ -58,7 +58,7 @@ fn drop_some<L: Wire>(link: &mut L) -> bool
 }
 
 /// Takes what still comes, and drops it, until nothing comes. A connection that ends with octets unread takes its answer away from the peer.
-#[tactic(auto, using(crate::proofs::Dropping::none_dropped, crate::proofs::Dropping::more_dropped))]
+#[tactic(auto, using(crate::proofs::Dropping::none_dropped))]
 pub(crate) fn drop_rest<L: Wire>(link: &mut L)
     ensures drops { Drops (L.reading link.old).left (L.reading link.new).left }
     ensures writing { L.writing link.new ≡ L.writing link.old }

@@ -41,7 +41,7 @@ fn is_late(begun: Tick, now: Tick) -> bool
 }
 
 /// Reads until the head of a request is whole, or can't be, in so many turns at most. The clock is read before the first turn and behind each.
-#[tactic(auto, using(crate::proofs::Heads::none_heard, crate::proofs::Heads::heard_out, crate::proofs::Heads::heard_late, crate::proofs::Heads::heard_on, crate::proofs::Heads::all_heard))]
+#[tactic(auto, using(crate::proofs::Heads::none_heard, crate::proofs::Heads::heard_on))]
 pub(crate) fn hear<L: Wire, C: Clock>(
     alloc: Global,
     clock: &mut C,
@@ -55,7 +55,9 @@ pub(crate) fn hear<L: Wire, C: Clock>(
     for _turn in 0..turns {
         match turn(link, &mut octets) {
             Ok(Asked::More) => {}
-            end => return end,
+            Ok(Asked::Counts) => return Ok(Asked::Counts),
+            Ok(Asked::Refused(why)) => return Ok(Asked::Refused(why)),
+            Err(why) => return Err(why),
         }
         if is_late(begun, clock.now()) {
             return Err(Unheard::Slow);
