@@ -101,24 +101,59 @@ module _ (turns : ℕ) (octets more : List ℕ) (begun : ℕ) (c d : Clocked) (o
   pub heard_out : (all : ℕ) (answer : Result Asked Unheard) → answer ≢ Ok More → IsTurned answer octets more mid new → Hears all answer c d old new
   heard_out all (Ok More) other turned = absurd (other refl)
   heard_out all (Ok Counts) other turned = record {
-    taken = octets ++ turned.piece; took = whole turned.piece turned.took; same = turned.same ∙ is.same; begun = begun; later = is.later; goes = is.goes;
-    heard = subst (λ (o : List ℕ). IsWhole o Counts) turned.gives.0 turned.gives.1; reason = tt; timely = λ e. is.timely;
+    taken = octets ++ turned.piece;
+    took = whole turned.piece turned.took;
+    same = turned.same ∙ is.same;
+    begun = begun;
+    later = is.later;
+    goes = is.goes;
+    heard = subst (λ (o : List ℕ). IsWhole o Counts) turned.gives.0 turned.gives.1;
+    reason = tt;
+    timely = λ e. is.timely;
   }
   heard_out all (Ok (Refused why)) other turned = record {
-    taken = octets ++ turned.piece; took = whole turned.piece turned.took; same = turned.same ∙ is.same; begun = begun; later = is.later; goes = is.goes;
-    heard = subst (λ (o : List ℕ). IsWhole o (Refused why)) turned.gives.0 turned.gives.1; reason = tt; timely = λ e. is.timely;
+    taken = octets ++ turned.piece;
+    took = whole turned.piece turned.took;
+    same = turned.same ∙ is.same;
+    begun = begun;
+    later = is.later;
+    goes = is.goes;
+    heard = subst (λ (o : List ℕ). IsWhole o (Refused why)) turned.gives.0 turned.gives.1;
+    reason = tt;
+    timely = λ e. is.timely;
   }
   heard_out all (Err PeerEnd) other turned = record {
-    taken = octets ++ turned.piece; took = whole turned.piece turned.took; same = turned.same ∙ is.same; begun = begun; later = is.later; goes = is.goes;
-    heard = none_more turned.piece turned.gives.0; reason = (omega (arith, is.ends, turned.gives.1), out_on old.reading.left mid.reading.left new.reading.left octets is.took turned.gives.2); timely = λ e. is.timely;
+    taken = octets ++ turned.piece;
+    took = whole turned.piece turned.took;
+    same = turned.same ∙ is.same;
+    begun = begun;
+    later = is.later;
+    goes = is.goes;
+    heard = none_more turned.piece turned.gives.0;
+    reason = (omega (arith, is.ends, turned.gives.1), out_on old.reading.left mid.reading.left new.reading.left octets is.took turned.gives.2);
+    timely = λ e. is.timely;
   }
   heard_out all (Err ReadFault) other turned = record {
-    taken = octets ++ turned.piece; took = whole turned.piece turned.took; same = turned.same ∙ is.same; begun = begun; later = is.later; goes = is.goes;
-    heard = none_more turned.piece turned.gives.0; reason = omega (arith, is.faults, turned.gives.1); timely = λ e. is.timely;
+    taken = octets ++ turned.piece;
+    took = whole turned.piece turned.took;
+    same = turned.same ∙ is.same;
+    begun = begun;
+    later = is.later;
+    goes = is.goes;
+    heard = none_more turned.piece turned.gives.0;
+    reason = omega (arith, is.faults, turned.gives.1);
+    timely = λ e. is.timely;
   }
   heard_out all (Err NoMemory) other turned = record {
-    taken = octets ++ turned.piece; took = whole turned.piece turned.took; same = turned.same ∙ is.same; begun = begun; later = is.later; goes = is.goes;
-    heard = tt; reason = tt; timely = λ e. is.timely;
+    taken = octets ++ turned.piece;
+    took = whole turned.piece turned.took;
+    same = turned.same ∙ is.same;
+    begun = begun;
+    later = is.later;
+    goes = is.goes;
+    heard = tt;
+    reason = tt;
+    timely = λ e. is.timely;
   }
   heard_out all (Err Slow) other turned = absurd turned.gives
   heard_out all (Err Turns) other turned = absurd turned.gives
@@ -130,8 +165,15 @@ module _ (turns : ℕ) (octets more : List ℕ) (begun : ℕ) (c d : Clocked) (o
 
     pub heard_late : (all now : ℕ) → e.last ≡ now → is_late begun now ≡ true → Hears all (Err Slow) c e old new
     heard_late all now is_now late = record {
-      taken = more; took = took; same = turned.same ∙ is.same; begun = begun; later = is.later; goes = omega (arith, is.goes, never_falls);
-      heard = turned.gives.1; reason = omega (arith, ltb-true (begun + HEAD_SECONDS) now late, is_now); timely = λ other. absurd (other refl);
+      taken = more;
+      took = took;
+      same = turned.same ∙ is.same;
+      begun = begun;
+      later = is.later;
+      goes = omega (arith, is.goes, never_falls);
+      heard = turned.gives.1;
+      reason = omega (arith, ltb-true (begun + HEAD_SECONDS) now late, is_now);
+      timely = λ other. absurd (other refl);
     }
 
     pub heard_on : (now : ℕ) → e.last ≡ now → is_late begun now ≡ false → IsHearing (turns + 1) more begun c e old new
@@ -149,5 +191,13 @@ module _ (turns : ℕ) (octets more : List ℕ) (begun : ℕ) (c d : Clocked) (o
 
 pub all_heard : (turns : ℕ) (octets : List ℕ) (begun : ℕ) (c d : Clocked) (old new : Sides) → IsHearing turns octets begun c d old new → Hears turns (Err Turns) c d old new
 all_heard turns octets begun c d old new is = record {
-  taken = octets; took = is.took; same = is.same; begun = begun; later = is.later; goes = is.goes; heard = is.is_open; reason = is.read; timely = λ e. is.timely;
+  taken = octets;
+  took = is.took;
+  same = is.same;
+  begun = begun;
+  later = is.later;
+  goes = is.goes;
+  heard = is.is_open;
+  reason = is.read;
+  timely = λ e. is.timely;
 }

@@ -1,16 +1,12 @@
 //! Connections in memory: what is told of each, and how it ends.
 use crate::{Page, Scraped, Surveyor, Unheard, Unsurveyed, scrape, serve_scrapes};
 use dom_base::{Bytes, List, NoMemory, Tick, read_number};
-use dom_edge::{
-    MemoryClock, MemoryLink, MemoryListener, MemorySink, MemoryStream, Noted,
-};
+use dom_edge::{MemoryClock, MemoryLink, MemoryListener, MemorySink, MemoryStream, Noted};
 use plant_text::read_network;
 use scrape_http::Refusal;
 use std::alloc::Global;
 use std::test::Fail;
-use survey_figures::{
-    CountFigures, ElementSurvey, Survey, Surveyed, TapeFigures, TopologySurvey,
-};
+use survey_figures::{CountFigures, ElementSurvey, Survey, Surveyed, TapeFigures, TopologySurvey};
 
 const SETTINGS: &[u8] = b"[[element]]
 as = 1

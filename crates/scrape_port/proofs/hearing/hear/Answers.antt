@@ -11,22 +11,22 @@ use Rattle.scrape_port.proofs.hearing.hear.Goals as goal
 pub returns-in-Ok-Counts : goal.returns-in-Ok-Counts
 returns-in-Ok-Counts g c = record {
   hears = heard_out c.loop-turn._turn c.loop-turn.octets.items c.turn.new.octets.items c.now-begun.result.0 (clocked (g.C.Clock.last c.args.clock.now) (g.C.Clock.readings c.args.clock.now)) (clocked (g.C.Clock.last c.loop-turn.clock) (g.C.Clock.readings c.loop-turn.clock))
-          (sides (g.L.Wire.reading c.args.link.now) (g.L.Wire.writing c.args.link.now)) (sides (g.L.Wire.reading c.loop-turn.link) (g.L.Wire.writing c.loop-turn.link))
-          (sides (g.L.Wire.reading c.turn.new.link) (g.L.Wire.writing c.turn.new.link)) c.loop-turn.invariant.hears c.args.turns (Ok Counts) (λ e. (let no : ⊥ = cc e in no)) (subst (λ (a : Asked). IsTurned (Ok a) c.loop-turn.octets.items c.turn.new.octets.items (sides (g.L.Wire.reading c.loop-turn.link) (g.L.Wire.writing c.loop-turn.link)) (sides (g.L.Wire.reading c.turn.new.link) (g.L.Wire.writing c.turn.new.link))) (let is : c.in-Ok-Counts.field-0 ≡ Counts = cc c.in-Ok-Counts.field-0-is in is) c.in-Ok-Counts.ensures.turned);
+      (sides (g.L.Wire.reading c.args.link.now) (g.L.Wire.writing c.args.link.now)) (sides (g.L.Wire.reading c.loop-turn.link) (g.L.Wire.writing c.loop-turn.link))
+      (sides (g.L.Wire.reading c.turn.new.link) (g.L.Wire.writing c.turn.new.link)) c.loop-turn.invariant.hears c.args.turns (Ok Counts) (λ e. (let no : ⊥ = cc e in no)) (subst (λ (a : Asked). IsTurned (Ok a) c.loop-turn.octets.items c.turn.new.octets.items (sides (g.L.Wire.reading c.loop-turn.link) (g.L.Wire.writing c.loop-turn.link)) (sides (g.L.Wire.reading c.turn.new.link) (g.L.Wire.writing c.turn.new.link))) (let is : c.in-Ok-Counts.field-0 ≡ Counts = cc c.in-Ok-Counts.field-0-is in is) c.in-Ok-Counts.ensures.turned);
 }
 
 pub returns-in-Ok-Refused : goal.returns-in-Ok-Refused
 returns-in-Ok-Refused g c = record {
   hears = heard_out c.loop-turn._turn c.loop-turn.octets.items c.turn.new.octets.items c.now-begun.result.0 (clocked (g.C.Clock.last c.args.clock.now) (g.C.Clock.readings c.args.clock.now)) (clocked (g.C.Clock.last c.loop-turn.clock) (g.C.Clock.readings c.loop-turn.clock))
-          (sides (g.L.Wire.reading c.args.link.now) (g.L.Wire.writing c.args.link.now)) (sides (g.L.Wire.reading c.loop-turn.link) (g.L.Wire.writing c.loop-turn.link))
-          (sides (g.L.Wire.reading c.turn.new.link) (g.L.Wire.writing c.turn.new.link)) c.loop-turn.invariant.hears c.args.turns (Ok (Refused c.in-Ok-Refused.why)) (λ e. (let no : ⊥ = cc e in no)) (subst (λ (a : Asked). IsTurned (Ok a) c.loop-turn.octets.items c.turn.new.octets.items (sides (g.L.Wire.reading c.loop-turn.link) (g.L.Wire.writing c.loop-turn.link)) (sides (g.L.Wire.reading c.turn.new.link) (g.L.Wire.writing c.turn.new.link))) (let is : c.in-Ok-Refused.field-0 ≡ Refused c.in-Ok-Refused.why = cc c.in-Ok-Refused.field-0-is in is) c.in-Ok-Refused.ensures.turned);
+      (sides (g.L.Wire.reading c.args.link.now) (g.L.Wire.writing c.args.link.now)) (sides (g.L.Wire.reading c.loop-turn.link) (g.L.Wire.writing c.loop-turn.link))
+      (sides (g.L.Wire.reading c.turn.new.link) (g.L.Wire.writing c.turn.new.link)) c.loop-turn.invariant.hears c.args.turns (Ok (Refused c.in-Ok-Refused.why)) (λ e. (let no : ⊥ = cc e in no)) (subst (λ (a : Asked). IsTurned (Ok a) c.loop-turn.octets.items c.turn.new.octets.items (sides (g.L.Wire.reading c.loop-turn.link) (g.L.Wire.writing c.loop-turn.link)) (sides (g.L.Wire.reading c.turn.new.link) (g.L.Wire.writing c.turn.new.link))) (let is : c.in-Ok-Refused.field-0 ≡ Refused c.in-Ok-Refused.why = cc c.in-Ok-Refused.field-0-is in is) c.in-Ok-Refused.ensures.turned);
 }
 
 pub returns-in-Err : goal.returns-in-Err
 returns-in-Err g c = record {
   hears = heard_out c.loop-turn._turn c.loop-turn.octets.items c.turn.new.octets.items c.now-begun.result.0 (clocked (g.C.Clock.last c.args.clock.now) (g.C.Clock.readings c.args.clock.now)) (clocked (g.C.Clock.last c.loop-turn.clock) (g.C.Clock.readings c.loop-turn.clock))
-          (sides (g.L.Wire.reading c.args.link.now) (g.L.Wire.writing c.args.link.now)) (sides (g.L.Wire.reading c.loop-turn.link) (g.L.Wire.writing c.loop-turn.link))
-          (sides (g.L.Wire.reading c.turn.new.link) (g.L.Wire.writing c.turn.new.link)) c.loop-turn.invariant.hears c.args.turns (Err c.in-Err.why) (λ e. (let no : ⊥ = cc e in no)) c.in-Err.ensures.turned;
+      (sides (g.L.Wire.reading c.args.link.now) (g.L.Wire.writing c.args.link.now)) (sides (g.L.Wire.reading c.loop-turn.link) (g.L.Wire.writing c.loop-turn.link))
+      (sides (g.L.Wire.reading c.turn.new.link) (g.L.Wire.writing c.turn.new.link)) c.loop-turn.invariant.hears c.args.turns (Err c.in-Err.why) (λ e. (let no : ⊥ = cc e in no)) c.in-Err.ensures.turned;
 }
 
 pub returns-then-is_late : goal.returns-then-is_late
