@@ -18,7 +18,7 @@ from sessions import Session
 
 
 class Came:
-    """What came over connections, in a file: by the port and, where peers are known by it, the address that they come from."""
+    """What came over connections, in a file: by the port and, where the settings have it, the address of the peer."""
 
     def __init__(self):
         self.file, self.end, self.lock = tempfile.TemporaryFile(), 0, threading.Lock()
@@ -161,10 +161,10 @@ def alike(came, handed, is_shut):
 
 
 def keys_of(settings):
-    """By the name of a peer that connects, where its connections are kept."""
+    """By the name of a peer where its connections are kept: by its port, and the address from which it connects or at which it is dialled."""
     with open(settings, "rb") as file:
         peers = tomllib.load(file).get("peer", [])
-    return {peer["name"]: (peer.get("port", 4189), peer.get("from")) for peer in peers if "connect" not in peer}
+    return {peer["name"]: (peer.get("port", 4189), peer.get("from", peer.get("connect"))) for peer in peers}
 
 
 def compare(program, folder, kept):

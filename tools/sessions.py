@@ -18,11 +18,22 @@ class Session:
     message by message."""
 
     def __init__(self, host, port, within=30, source=None):
+        self.stands(socket.create_connection((host, port), timeout=within, source_address=source and (source, 0)), within)
+
+    @classmethod
+    def over(cls, link, within=30):
+        """The session of a connection that the element made."""
+        session = cls.__new__(cls)
+        session.stands(link, within)
+        return session
+
+    def stands(self, link, within):
+        """The connection is there."""
         self.within = within
         self.stream = messages.Stream()
         self.waiting = []  # messages that came and were not asked for yet
         self.heard = []
-        self.socket = socket.create_connection((host, port), timeout=within, source_address=source and (source, 0))
+        self.socket = link
         self.socket.setsockopt(socket.IPPROTO_TCP, socket.TCP_NODELAY, 1)
 
     def __enter__(self):
