@@ -153,11 +153,11 @@ class Operator(threading.Thread):
         if not text.strip(b" \t") or text.startswith(b"#"):
             return None
         verb, *words = re.split(rb"[ \t]+", text)
-        if verb in (b"load", b"change") and len(words) == 2 and words[1] and is_number(words[0], 1):
+        if verb in (b"load", b"change") and len(words) == 2 and words[1] and is_number(words[0]):
             return verb.decode(), (int(words[0]), words[1])
         if verb == b"shut" and len(words) == 1 and words[0]:
             return "shut", (words[0].decode("latin-1"),)
-        if verb == b"break" and len(words) == 2 and is_number(words[0], 0) and is_number(words[1], 0):
+        if verb == b"break" and len(words) == 2 and is_number(words[0]) and is_number(words[1]):
             return "break", (int(words[0]), int(words[1]))
         return "bad line", ()
 
@@ -245,8 +245,8 @@ class Operator(threading.Thread):
         self.job.count("operator", "", "", word_of(verb, answer.decode()))
 
 
-def is_number(word, least):
-    return re.fullmatch(rb"[0-9]+", word) and least <= int(word) <= 65535
+def is_number(word):
+    return re.fullmatch(rb"[0-9]+", word) and int(word) <= 65535
 
 
 def word_of(verb, answer):
