@@ -122,7 +122,7 @@ class Line:
     def is_ended(self, rival):
         """A further connection has ended: only where a later one waits may it."""
         if rival is self.behind:
-            self.differs("a connection that waits is ended")
+            self.differs("of %d connections that wait the last is ended" % len(self.rivals))
         else:
             self.job.count("door", self.peer.way, self.name, "of those that wait the last stays")
         self.drop(rival)
@@ -131,7 +131,7 @@ class Line:
     def drop(self, rival):
         rival.given().close()
         self.rivals.remove(rival)
-        self.behind = None if rival is self.behind else self.behind
+        self.behind = self.rivals[-1] if self.rivals else None
 
     def drop_all(self):
         for rival in list(self.rivals):
@@ -272,8 +272,9 @@ class Line:
         self.send(reply if self.draw.random() < 0.5 else self.job.drawer.changer.message(reply, reply))
 
     def end(self):
-        self.job.selector.unregister(self.socket) if self.socket else None
-        self.socket.close() if self.socket else None
+        if self.socket:
+            self.job.selector.unregister(self.socket)
+            self.socket.close()
         if self.phase == "door":
             self.drop_all()
         self.socket, self.phase, self.rivals = None, "ended", []
