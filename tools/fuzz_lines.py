@@ -16,6 +16,7 @@ HOST = servers.HOST
 WITHIN = 60  # seconds in which something must come, on a busy machine
 TURNS = 200  # turns of our own in which it must come, too
 PATIENCE = 0.03  # seconds that answers are waited for, where none has to come
+TICKS = 59  # seconds at least behind which a session that says nothing is ended
 PAUSE = 1.0  # seconds at least from the end of a connection to the next dial
 REFUSED = 1.5  # seconds for which dials are refused, so that the first one is
 TWICE = 3.0  # seconds from that end to the second dial, where the first was refused
@@ -44,6 +45,7 @@ class Line:
         self.socket, self.serial, self.phase, self.gone = None, 0, "ended", None
         self.behind, self.rivals = None, []
         self.patience = PATIENCE
+        self.since = self.began = time.monotonic()
 
     def begin(self):
         self.number, self.draw = self.job.next_stream()
@@ -52,7 +54,8 @@ class Line:
         self.phase, self.is_cut, self.probed, self.forged, self.wanted = "sends", False, None, 0, 0
         self.before, self.gone = self.gone, None
         self.serial += 1
-        self.began = time.monotonic()
+        # the connection of a stream may stand since the one before it began
+        self.since, self.began = self.began, time.monotonic()
         self.act()
         self.job.at(self.began + WITHIN, self, "late")
         self.connect()
@@ -296,7 +299,11 @@ class Line:
 
     def is_shut(self):
         """Whether an operator asked for the end of this connection, or of one just before it."""
-        return self.job.operator.may_shut(self.peer.label, self.began)
+        return self.job.operator.may_shut(self.peer.label, self.since)
+
+    def is_late(self, words):
+        """Whether the session ended since nothing came for so long, where these lines stood still."""
+        return words[-1:] in (["error 1/2"], ["error 1/7"]) and time.monotonic() - self.since >= TICKS and self.job.stood_still(self.since)
 
     def judge(self):
         says, words = self.table.says, self.words()
@@ -306,6 +313,8 @@ class Line:
         is_cut = self.is_cut or is_shut
         if is_shut or words[-1:] == ["close 2"] or self.table.is_loose:
             self.gone = None  # it may have ended before
+        if self.is_late(words):
+            words, is_cut = words[:-1], True
         if words != says and not (is_cut and words == says[:len(words)]):
             self.differs("its session says what the table does not: %s" % says)
             return

@@ -9,12 +9,12 @@ APART = 20  # an element's domain that no other is linked with, for topologies t
 WITHIN = 60  # seconds in which an answer must come, on a busy machine
 BEHIND = 5  # seconds for which a broken link may lack, on a busy machine
 LONGEST = 262144
-FAULTS = ("syntax", "no header", "other as", "duplicate node", "duplicate near", "duplicate far", "duplicate entry", "unknown node", "own as", "bad metric",
+FAULTS = ("syntax", "no header", "other as", "too many", "duplicate node", "duplicate near", "duplicate far", "duplicate entry", "unknown node", "own as", "bad metric",
           "absent", "present")
 LINKS = ({1, 2}, {2, 3}, {0, 1}, {0, 2}, {0, 3})
-LINES = (["load ok", "load read fault", "load too large", "load refused no such peer", "change ok", "change read fault", "change refused no such peer", "shut ok",
-          "shut refused no such peer", "break ok", "break refused no such peer", "bad line", "too large input", "skipped"]
-         + ["load bad network " + fault for fault in FAULTS[:-2]] + ["change bad network " + fault for fault in FAULTS if fault not in ("no header", "other as")])
+LINES = (["%s %s" % (verb, answer) for verb in ("load", "change") for answer in ("ok", "read fault", "too large", "refused no such peer", "refused generations full")]
+         + ["shut ok", "shut refused no such peer", "break ok", "break refused no such peer", "bad line", "too large input", "skipped"]
+         + ["load bad network " + fault for fault in FAULTS[:-2]] + ["change bad network " + fault for fault in FAULTS if fault not in ("no header", "other as", "too many")])
 
 
 class File:

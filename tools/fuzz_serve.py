@@ -24,6 +24,7 @@ import signal
 import tempfile
 import threading
 import time
+import traceback
 from collections import Counter
 
 import fuzz_lines
@@ -293,8 +294,8 @@ def lanes_of(given):
     for turn, count in enumerate(counts):
         try:
             job.run(count, recorded and turn % recorded == 0)
-        except (servers.NotStarted, OSError, Ended, Silent) as fault:
-            job.differs("%s: %s" % (type(fault).__name__, fault))
+        except Exception as fault:  # who waits for what this one tells is told
+            job.differs("%s: %s" % (type(fault).__name__, "".join(traceback.format_exception(fault))))
         told.put((job.met, job.faults, job.number, job.compared, job.events))
         job.met, job.faults, job.compared, job.events = Counter(), [], 0, 0
     told.put(None)
