@@ -10,3 +10,5 @@ pub mod Heads
 pub mod Members
 pub mod Composing
 mod TablePairs
+pub mod Placed
+mod OneAnswer

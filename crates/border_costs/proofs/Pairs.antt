@@ -69,10 +69,10 @@ head_is g q b down seeds are order entry a is (Some h) head =
 
 -- a node with a label has its best way
 pub best_is : (g : Rows) (ask : Ask) (seeds : List Seed) (labels : List (Option Label)) (from : ℕ) (entry : Addr) (a : Label) (places : List ℕ) (shown : List Addr) (head : Option Addr) →
-    AreSeeds g ask seeds → AreLabels g ask.query seeds labels → slice_get g.nodes from ≡ Some entry → label_at labels from ≡ Some a →
+    AreSeeds g ask seeds → IsLabel g ask.query seeds entry (Some a) → slice_get g.nodes from ≡ Some entry → label_at labels from ≡ Some a →
     HasSegment g ask.query seeds labels from places → ((ls : List Link) → AreAt g.links places ls → shown ≡ entry ∷ fars ls) → IsHead g ask.query ask.down ask.target a.exit head →
     IsBest g ask seeds entry (record { entry = entry; cost = a.cost; exit = a.exit; head = head; segment = shown })
-best_is g ask seeds labels from entry a places shown head seeded are at_entry at_a has hopped is_head =
+best_is g ask seeds labels from entry a places shown head seeded is at_entry at_a has hopped is_head =
     let nodes : Some has.node ≡ Some entry = sym has.at_node ∙ at_entry in
     let node : has.node ≡ entry = cc in
     let both : Some has.label ≡ Some a = sym has.at_label ∙ at_a in
@@ -81,8 +81,8 @@ best_is g ask seeds labels from entry a places shown head seeded are at_entry at
     subst (λ (b : Label). IsSegment g ask.query seeds entry b has.links) label (subst (λ (n : Addr). IsSegment g ask.query seeds n has.label has.links) node has.segment) in
     record {
       is_entry = refl;
-      pair = pair_of g ask seeds seeded entry (Some a) (label_is g ask.query seeds labels from entry (Some a) are at_entry at_a);
-      label = label_is g ask.query seeds labels from entry (Some a) are at_entry at_a;
+      pair = pair_of g ask seeds seeded entry (Some a) is;
+      label = is;
       is_head = is_head;
       links = has.links;
       chosen = segment;

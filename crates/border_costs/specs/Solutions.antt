@@ -1,5 +1,5 @@
 -- The answer to an ask.
-use Rattle.std.specs.Prelude.{◌≡◌, ◌≢◌, ◌⊎◌, ◌↔◌, List, [], ◌∷◌, map, Contains, None, Some, IsTrue}
+use Rattle.std.specs.Prelude.{◌≡◌, ◌≢◌, ◌⊎◌, ◌↔◌, ◌≤◌, ◌<◌, ℕ, List, [], ◌∷◌, map, length, All, Contains, None, Some, IsTrue, slice_get}
 use Rattle.std.specs.List.{zip}
 use Rattle.std.specs.declared.option.Option.{Option}
 use Rattle.dom_base.specs.declared.addr.Addr.{Addr}
@@ -11,10 +11,13 @@ use Rattle.dom_base.specs.declared.query.Label.{Label}
 use Rattle.te_links.specs.declared.rows.OutLink.{OutLink}
 use Rattle.te_links.specs.Rows.{Rows}
 use Rattle.walk_laws.specs.Labels.{IsLabel, IsSegment}
+use Rattle.walk_laws.specs.Capped.{capped}
 use Rattle.walk_laws.specs.Certificate.{Certifies}
 use Rattle.walk_laws.specs.Borders.{IsBorderSeed}
 use Rattle.path_certificate.specs.declared.certificate.Certificate.{Certificate}
 use Rattle.path_certificate.specs.Rows.{label_in}
+use Rattle.path_search.specs.declared.find.LabelsTo.{LabelsTo}
+use Rattle.path_search.specs.Arcs.{label_at}
 use Rattle.path_search.specs.Search.{AreLabels}
 use Rattle.vspt_tree.specs.declared.branch.Best.{Best}
 use Rattle.border_costs.specs.declared.job.Target.{Target}
@@ -22,6 +25,7 @@ use Rattle.border_costs.specs.declared.job.Target.TheVariants.{Node, Next}
 use Rattle.border_costs.specs.declared.job.Down.{Down}
 use Rattle.border_costs.specs.declared.job.Ask.{Ask}
 use Rattle.border_costs.specs.declared.answer.Answer.{Answer}
+use Rattle.border_costs.specs.declared.answer.LabelledAnswer.{LabelledAnswer}
 use Rattle.border_costs.specs.Asks.{AreSeeds, IsPair, HasNoPair, beyond}
 
 -- the far address is that of an out link with this head
@@ -81,7 +85,22 @@ pub record AreRows (g : Rows) (ask : Ask) (rows : Answer) : Type 0 where
   pub best : AreBest g ask seeds ask.entries rows.best
   pub source_known : IsTrue rows.source_known ↔ Contains g.nodes ask.source
   pub target_known : IsTrue rows.target_known ↔ IsKnownTarget g ask.target
-  pub certificate : IsLabelled g ask seeds rows.certificate
+
+-- the rows, with the labels of all nodes from the same seeds
+pub record AreLabelledRows (g : Rows) (ask : Ask) (told : LabelledAnswer) : Type 0 where
+  pub are_rows : AreRows g ask told.rows
+  pub labels : IsLabelled g ask are_rows.seeds told.certificate
+
+-- the places of the addresses that are nodes
+pub record ArePlaces (g : Rows) (addresses : List Addr) (places : List ℕ) : Type 0 where
+  pub inside : All (λ i. i < length g.nodes) places
+  pub every : (i : ℕ) (n : Addr) → Contains addresses n → slice_get g.nodes i ≡ Some n → Contains places i
+
+-- all labels up to a cost, which tell the label of each entry
+pub record TellEntries (g : Rows) (ask : Ask) (seeds : List Seed) (found : LabelsTo) : Type 0 where
+  pub within : found.reach ≤ ask.query.cap
+  pub are_labels : AreLabels g (capped found.reach ask.query) seeds found.labels
+  pub entries : (i : ℕ) (n : Addr) → Contains ask.entries n → slice_get g.nodes i ≡ Some n → IsLabel g ask.query seeds n (label_at found.labels i)
 
 -- an ask, the topology that it is computed in, and what is computed
 pub record Solution : Type 0 where

@@ -1,13 +1,12 @@
 //! The best way from each entry.
-ghost use Rattle.std.specs.Prelude.{◌≡◌, IfOk, MatchOption};
+ghost use Rattle.std.specs.Prelude.{◌≡◌, Contains, IfOk, MatchOption};
 ghost use Rattle.te_links.specs.Rows.{IsInOrder};
-ghost use Rattle.path_search.specs.Search.{AreLabels};
 ghost use Rattle.border_costs.specs.Asks.{AreSeeds, HasNoPair};
-ghost use Rattle.border_costs.specs.Solutions.{IsHeadOf, HasNoOut, IsBest, AreBest};
+ghost use Rattle.border_costs.specs.Solutions.{IsHeadOf, HasNoOut, IsBest, AreBest, TellEntries};
 
 use crate::job::{Ask, Target};
 use dom_base::{Addr, List, NoMemory, Seed};
-use path_search::{Labels, open_segment, segment};
+use path_search::{LabelsTo, open_segment, segment_to};
 use std::alloc::Global;
 use te_links::Links;
 use vspt_tree::Best;
@@ -32,21 +31,22 @@ fn best_of<'a, G: Links<'a>>(
     ask: &Ask,
     links: &mut G,
     seeds: &[Seed],
-    labels: &Labels,
+    found: &LabelsTo,
     entry: Addr,
 ) -> Result<Option<Best>, NoMemory>
     requires seeds { AreSeeds (G.rows links.old) ask.now seeds.now }
-    requires labels { AreLabels (G.rows links.old) ask.now.query seeds.now labels.now }
+    requires labels { TellEntries (G.rows links.old) ask.now seeds.now found.now }
+    requires entry { Contains ask.now.entries entry }
     ensures best { IfOk result (λ best. MatchOption best (HasNoPair (G.rows links.old) ask.now entry) (IsBest (G.rows links.old) ask.now seeds.now entry)) }
     ensures same { G.rows links.new ≡ G.rows links.old }
 {
     let Some(from) = links.find_node(entry) else {
         return Ok(None);
     };
-    let Some(places) = segment(alloc, links, &ask.query, seeds, labels, from)? else {
+    let Some(places) = segment_to(alloc, links, &ask.query, seeds, found, from)? else {
         return Ok(None);
     };
-    let Some(label) = labels.at(from) else {
+    let Some(label) = found.labels.at(from) else {
         unreachable!()
     };
     let head = match ask.target {
@@ -69,16 +69,16 @@ pub(crate) fn best_rows<'a, G: Links<'a>>(
     ask: &Ask,
     links: &mut G,
     seeds: &[Seed],
-    labels: &Labels,
+    found: &LabelsTo,
 ) -> Result<Vec<Best>, NoMemory>
     requires seeds { AreSeeds (G.rows links.old) ask.now seeds.now }
-    requires labels { AreLabels (G.rows links.old) ask.now.query seeds.now labels.now }
+    requires labels { TellEntries (G.rows links.old) ask.now seeds.now found.now }
     ensures best { IfOk result (λ rows. AreBest (G.rows links.old) ask.now seeds.now ask.now.entries rows.items) }
     ensures same { G.rows links.new ≡ G.rows links.old }
 {
     let mut rows = Vec::new(alloc);
     for entry in ask.entries.as_slice() {
-        if let Some(best) = best_of(alloc, ask, links, seeds, labels, *entry)? {
+        if let Some(best) = best_of(alloc, ask, links, seeds, found, *entry)? {
             rows.push(best)?;
         }
     }

@@ -2,11 +2,11 @@
 ghost use Rattle.std.specs.Prelude.{◌≡◌, IfOk, IsOkAnd};
 ghost use Rattle.std.specs.Arc.{arc_value};
 ghost use Rattle.te_links.specs.Rows.{IsTopology, IsInOrder};
-ghost use Rattle.border_costs.specs.Solutions.{AreRows};
+ghost use Rattle.border_costs.specs.Solutions.{AreRows, AreLabelledRows};
 
-use crate::answer::Answer;
+use crate::answer::{Answer, LabelledAnswer};
 use crate::job::{Ask, Job};
-use crate::solution::solve_rows;
+use crate::solution::{solve_labelled_rows, solve_rows};
 use dom_base::{As, NoMemory};
 use path_certificate::Certificate;
 use std::alloc::Global;
@@ -111,13 +111,6 @@ impl Solved {
     {
         self.rows.target_known
     }
-
-    /// The labels of all nodes.
-    pub fn certificate(&self) -> &Certificate
-        ensures { result.now ≡ self.now.rows.certificate }
-    {
-        &self.rows.certificate
-    }
 }
 
 /// Solves a job over its own topology. It waits for nobody.
@@ -129,4 +122,15 @@ pub fn solve(alloc: Global, job: &Job) -> Result<Solved, NoMemory>
     let mut links = Counted::new(&job.topology);
     let rows = solve_rows(alloc, &job.ask, &mut links)?;
     Solved::of(job, rows)
+}
+
+/// Solves a job over its own topology, with the labels of all nodes.
+pub fn solve_labelled(alloc: Global, job: &Job) -> Result<(Solved, Certificate), NoMemory>
+    ensures ask { IfOk result (λ told. told.0.ask ≡ job.now.ask) }
+    ensures topology { IfOk result (λ told. told.0.topology ≡ arc_value job.now.topology) }
+    ensures rows { IfOk result (λ told. AreLabelledRows (arc_value job.now.topology) job.now.ask (record { rows = told.0.rows; certificate = told.1 })) }
+{
+    let mut links = Counted::new(&job.topology);
+    let LabelledAnswer { rows, certificate } = solve_labelled_rows(alloc, &job.ask, &mut links)?;
+    Ok((Solved::of(job, rows)?, certificate))
 }

@@ -10,8 +10,7 @@ use crate::kept::Kept;
 use crate::nexts::nexts_of;
 use border_costs::{Answer, Ask, is_node, knows_target, seeds_of};
 use dom_base::{List, NoMemory};
-use path_certificate::Certificate;
-use path_search::{label_rows, search};
+use path_search::search;
 use std::alloc::Global;
 use te_links::Links;
 
@@ -52,15 +51,9 @@ pub(crate) fn answer<'a, G: Links<'a>>(
 {
     obeys_rules(links);
     let best = best_rows(alloc, ask, links, kept)?;
-    let labels = label_rows(alloc, links, &kept.labels)?;
     Ok(Answer {
         best: List::from_vec(best),
         source_known: is_node(links, ask.source),
         target_known: knows_target(links, ask.target),
-        certificate: Certificate {
-            own: ask.at,
-            labels: List::from_vec(labels),
-            path: None,
-        },
     })
 }

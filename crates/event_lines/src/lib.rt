@@ -1,6 +1,7 @@
 //! The text of told events: the lines of a script that say them again.
 #![tactic(auto)]
 
+mod digits;
 mod law;
 mod lines;
 mod names;

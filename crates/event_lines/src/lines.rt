@@ -1,13 +1,13 @@
 //! The lines of told events. Each call writes at the end; on `NoMemory` a part may stand there.
-ghost use Rattle.std.specs.Prelude.{◌≡◌, ◌<◌, ◌++◌, ◌∷◌, [], OnOk, codes, decimal};
+ghost use Rattle.std.specs.Prelude.{◌≡◌, ◌<◌, ◌≤◌, ◌++◌, ◌∷◌, [], OnOk, codes, decimal, length};
 ghost use Rattle.std.specs.List.{AllByRecursion};
 ghost use Rattle.line_text.specs.Hexadecimal.{hex_text};
 ghost use Rattle.event_lines.specs.EventLines.{IsInRange, event_line, load_name as name_of_load, peer_name};
 
+use crate::digits::{put, put_hex, put_number};
 use crate::names::load_name;
-use dom_base::{As, NoMemory, write_number};
+use dom_base::{As, NoMemory};
 use event_tape::Told;
-use line_text::write_hex;
 use plant_text::PeerRow;
 use std::alloc::Global;
 
@@ -19,32 +19,24 @@ fn number_of(at: As) -> u64
     u64::from(at.0)
 }
 
-// A blank and a number.
-fn push_number(number: u64, into: &mut Vec<u8>) -> Result<(), NoMemory>
-    ensures { OnOk result (into.new.items ≡ into.old.items ++ 32 ∷ decimal number) }
+// The name of a peer, if it has one.
+fn name_of(peers: &[PeerRow], peer: u32) -> &[u8]
+    ensures { result.now ≡ peer_name peers.now peer }
 {
-    into.push(b' ')?;
-    write_number(number, into)
-}
-
-// A blank and the name of a peer, if it has one.
-fn push_name(peers: &[PeerRow], peer: u32, into: &mut Vec<u8>) -> Result<(), NoMemory>
-    ensures { OnOk result (into.new.items ≡ into.old.items ++ 32 ∷ peer_name peers.now peer) }
-{
-    into.push(b' ')?;
-    if let Some(row) = peers.get(peer as usize) {
-        into.extend_from_slice(row.name.as_str().as_bytes())?;
+    match peers.get(peer as usize) {
+        Some(row) => row.name.as_str().as_bytes(),
+        None => b"",
     }
-    Ok(())
 }
 
 fn push_load(alloc: Global, own: u64, loads: u64, into: &mut Vec<u8>) -> Result<(), NoMemory>
     ensures { OnOk result (into.new.items ≡ into.old.items ++ codes "load" ++ 32 ∷ decimal own ++ 32 ∷ name_of_load loads ++ 10 ∷ []) }
 {
     let name = load_name(alloc, loads)?;
-    into.extend_from_slice(b"load")?;
-    push_number(own, into)?;
-    into.push(b' ')?;
+    into.reserve(26)?;
+    put(b"load", into);
+    put_number(own, into);
+    into.push_reserved(b' ');
     into.extend_from_slice(name.as_str().as_bytes())?;
     into.push(b'\n')?;
     Ok(())
@@ -57,11 +49,15 @@ fn push_of_peer(
     peer: u32,
     into: &mut Vec<u8>,
 ) -> Result<(), NoMemory>
+    requires { length word.now ≤ 7 }
     ensures { OnOk result (into.new.items ≡ into.old.items ++ word.now ++ 32 ∷ peer_name peers.now peer ++ 10 ∷ []) }
 {
-    into.extend_from_slice(word)?;
-    push_name(peers, peer, into)?;
-    into.push(b'\n')?;
+    let name = name_of(peers, peer);
+    into.reserve(name.len() + 9)?;
+    put(word, into);
+    into.push_reserved(b' ');
+    put(name, into);
+    into.push_reserved(b'\n');
     Ok(())
 }
 
@@ -73,37 +69,43 @@ fn push_of_holder(
     holder: u32,
     into: &mut Vec<u8>,
 ) -> Result<(), NoMemory>
+    requires { length word.now ≤ 7 }
     ensures { OnOk result (into.new.items ≡ into.old.items ++ word.now ++ 32 ∷ peer_name peers.now peer ++ 32 ∷ decimal holder ++ 10 ∷ []) }
 {
-    into.extend_from_slice(word)?;
-    push_name(peers, peer, into)?;
-    push_number(u64::from(holder), into)?;
-    into.push(b'\n')?;
+    let name = name_of(peers, peer);
+    into.reserve(name.len() + 30)?;
+    put(word, into);
+    into.push_reserved(b' ');
+    put(name, into);
+    put_number(u64::from(holder), into);
+    into.push_reserved(b'\n');
     Ok(())
 }
 
 // A word and two numbers.
 fn push_of_two(word: &[u8], first: u64, second: u64, into: &mut Vec<u8>) -> Result<(), NoMemory>
+    requires { length word.now ≤ 7 }
     ensures { OnOk result (into.new.items ≡ into.old.items ++ word.now ++ 32 ∷ decimal first ++ 32 ∷ decimal second ++ 10 ∷ []) }
 {
-    into.extend_from_slice(word)?;
-    push_number(first, into)?;
-    push_number(second, into)?;
-    into.push(b'\n')?;
+    into.reserve(50)?;
+    put(word, into);
+    put_number(first, into);
+    put_number(second, into);
+    into.push_reserved(b'\n');
     Ok(())
 }
 
 fn push_tick(tick: u64, into: &mut Vec<u8>) -> Result<(), NoMemory>
     ensures { OnOk result (into.new.items ≡ into.old.items ++ codes "tick" ++ 32 ∷ decimal tick ++ 10 ∷ []) }
 {
-    into.extend_from_slice(b"tick")?;
-    push_number(tick, into)?;
-    into.push(b'\n')?;
+    into.reserve(26)?;
+    put(b"tick", into);
+    put_number(tick, into);
+    into.push_reserved(b'\n');
     Ok(())
 }
 
 fn push_receive(
-    alloc: Global,
     peers: &[PeerRow],
     peer: u32,
     octets: &[u8],
@@ -112,12 +114,15 @@ fn push_receive(
     ensures line { OnOk result (into.new.items ≡ into.old.items ++ codes "receive" ++ 32 ∷ peer_name peers.now peer ++ 32 ∷ hex_text octets.now ++ 10 ∷ []) }
     ensures in_range { AllByRecursion (λ b. b < 256) octets.now }
 {
-    let digits = write_hex(alloc, octets)?;
-    into.extend_from_slice(b"receive")?;
-    push_name(peers, peer, into)?;
-    into.push(b' ')?;
-    into.extend_from_slice(&digits)?;
-    into.push(b'\n')?;
+    let name = name_of(peers, peer);
+    into.reserve(name.len() + 9)?;
+    put(b"receive", into);
+    into.push_reserved(b' ');
+    put(name, into);
+    into.push_reserved(b' ');
+    into.reserve(2 * octets.len() + 1)?;
+    put_hex(octets, into);
+    into.push_reserved(b'\n');
     Ok(())
 }
 
@@ -137,7 +142,7 @@ pub fn push_line(
         Told::Load(at, _topology) => push_load(alloc, number_of(*at), loads, into),
         Told::Open(peer, holder) => push_of_holder(b"open", peers, *peer, *holder, into),
         Told::Shut(peer) => push_of_peer(b"shut", peers, *peer, into),
-        Told::Receive(peer, octets) => push_receive(alloc, peers, *peer, octets.as_slice(), into),
+        Told::Receive(peer, octets) => push_receive(peers, *peer, octets.as_slice(), into),
         Told::Take(peer) => push_of_peer(b"take", peers, *peer, into),
         Told::Carry(from, to) => push_of_two(b"carry", number_of(*from), number_of(*to), into),
         Told::Break(from, to) => push_of_two(b"break", number_of(*from), number_of(*to), into),

@@ -7,12 +7,13 @@ ghost use Rattle.plant_queues.specs.Messages.{Covers};
 ghost use Rattle.plant_model.specs.RealWire.{wire};
 ghost use Rattle.plant_model.specs.Deeds as deeds;
 ghost use Rattle.plant_model.specs.Events as events;
+ghost use Rattle.network_links.specs.Inboxes.{first_type};
 ghost use Rattle.network_links.specs.Ends.{just_open, fed_while_up, is_left_out, with_kept};
 ghost use Rattle.network_links.specs.QuietSides.{ticked_quietly};
 ghost use Rattle.network_links.specs.Rests.{rest_of};
 ghost use Rattle.network_links.specs.Rooms.{KeepsRoom, Grows, Spends, Frees, queue};
 
-use crate::inbox::{Item, append_all, arrive, input_of};
+use crate::inbox::{Item, append_all, arrive, input_of, type_of};
 use crate::rest::{BACKLOG_MAX, Rest};
 use crate::side::Side;
 use dom_base::{Bytes, List, NoMemory, Tick};
@@ -122,6 +123,24 @@ impl Connection {
             Rest::Backlog
         } else {
             Rest::Messages
+        }
+    }
+
+    /// How many messages, and places of bad headers, wait to be taken; takes no memory.
+    pub fn inbox_len(&self) -> usize
+        ensures { result ≡ length self.now.kept.inbox }
+    {
+        let (front, back) = self.inbox.as_slices();
+        front.len() + back.len()
+    }
+
+    /// The type of the first message that waits. None where none waits, or a bad header stands there. It takes no memory.
+    pub fn first_type(&self) -> Option<u8>
+        ensures { result ≡ first_type self.now.kept.inbox }
+    {
+        match self.inbox.front() {
+            Some(Some(message)) => Some(type_of(message.as_slice())),
+            _ => None,
         }
     }
 

@@ -1,5 +1,5 @@
 //! What came to a session: whole messages, one for each request or reply, and bad headers.
-ghost use Rattle.std.specs.Prelude.{◌≡◌, ◌++◌, ◌∷◌, [], map, Some, IfOk, OnOk, OnErr};
+ghost use Rattle.std.specs.Prelude.{◌≡◌, ◌++◌, ◌∷◌, [], map, slice_index, Some, IfOk, OnOk, OnErr};
 ghost use Rattle.pcep_framing.specs.Feeding.{feed_of};
 ghost use Rattle.plant_model.specs.RealWire.{wire};
 ghost use Rattle.plant_model.specs.Events as events;
@@ -125,5 +125,15 @@ pub(crate) fn input_of(alloc: Global, item: &Item) -> Result<Input, NoMemory>
     match item {
         Some(frame) => read_input(alloc, frame.as_slice()),
         None => Ok(Input::Bad),
+    }
+}
+
+/// The type of a message.
+pub(crate) fn type_of(message: &[u8]) -> u8
+    ensures { result ≡ slice_index message.now 1 }
+{
+    match message.get(1) {
+        Some(octet) => *octet,
+        None => 0,
     }
 }

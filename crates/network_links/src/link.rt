@@ -111,6 +111,13 @@ impl Link {
         self.side(from).first().is_some()
     }
 
+    /// How many messages an end has sent that are not taken yet.
+    pub fn queued(&self, from: End) -> usize
+        ensures { result ≡ length (at_end from self.now).kept.out }
+    {
+        self.side(from).queued()
+    }
+
     /// The first message that an end has sent, as the session at the other end takes it. It stays in
     /// the queue.
     pub fn first_input(&self, from: End) -> Result<Option<Input>, NoMemory>

@@ -168,6 +168,16 @@ impl Links {
         }
     }
 
+    /// How many messages are on their way.
+    pub fn queued(&self, from: As, to: As) -> usize
+        ensures { result ≡ length ((row_of self.now).sides from to).kept.out }
+    {
+        match place_of(&self.links, from, to) {
+            Some(place) => self.links[place.link].queued(place.end),
+            None => 0,
+        }
+    }
+
     /// The first message that is on its way, as the session at the other end takes it.
     pub fn first_input(&self, from: As, to: As) -> Result<Option<Input>, NoMemory>
         ensures { IfOk result (λ input. input ≡ option_map (λ frame. deeds.input_of wire (Some frame)) (slice_get ((row_of self.now).sides from to).kept.out 0)) }

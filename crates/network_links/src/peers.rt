@@ -7,6 +7,7 @@ ghost use Rattle.plant_model.specs.Deeds as deeds;
 ghost use Rattle.network_links.specs.Accesses.{ConnectsGuest, DrainsGuest, FeedsGuest, Goes, GrowsGuest, SendsGuest, Shuts, TicksGuest};
 ghost use Rattle.network_links.specs.Ends.{is_left_out};
 ghost use Rattle.network_links.specs.Flow.{drop_first, inbox_of, out_of};
+ghost use Rattle.network_links.specs.Inboxes.{first_type};
 ghost use Rattle.network_links.specs.Peers.{Changes, guests_of, no_guests};
 ghost use Rattle.network_links.specs.Rests.{rest_of};
 
@@ -109,6 +110,26 @@ impl Peers {
         match self.connection(peer) {
             Some(connection) => connection.first_input(),
             None => Ok(None),
+        }
+    }
+
+    /// How many messages, and places of bad headers, wait of a peer; none where its connection is closed.
+    pub fn inbox_len(&self, peer: u32) -> usize
+        ensures { result ≡ length (inbox_of ((guests_of self.now).accesses peer).connection) }
+    {
+        match self.connection(peer) {
+            Some(connection) => connection.inbox_len(),
+            None => 0,
+        }
+    }
+
+    /// The type of the first message that waits of a peer.
+    pub fn first_type(&self, peer: u32) -> Option<u8>
+        ensures { result ≡ first_type (inbox_of ((guests_of self.now).accesses peer).connection) }
+    {
+        match self.connection(peer) {
+            Some(connection) => connection.first_type(),
+            None => None,
         }
     }
 

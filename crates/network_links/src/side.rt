@@ -115,6 +115,13 @@ impl Side {
         self.put(open_text(sid).as_slice());
     }
 
+    /// How many messages wait in the queue.
+    pub fn queued(&self) -> usize
+        ensures { result ≡ length self.now.kept.out }
+    {
+        self.out.len()
+    }
+
     /// The first message that was sent and is on its way.
     pub fn first(&self) -> Option<&[u8]>
         ensures { option_copied result ≡ slice_get self.now.kept.out 0 }

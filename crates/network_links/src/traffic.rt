@@ -10,7 +10,8 @@ ghost use Rattle.plant_model.specs.Deeds as deeds;
 ghost use Rattle.network_links.specs.Ends.{is_left_out};
 ghost use Rattle.network_links.specs.Links.{next_sid};
 ghost use Rattle.network_links.specs.Carried.{flow_of};
-ghost use Rattle.network_links.specs.Flow.{ClearsSaid, Clears, Connects, DropsFirstAt, GrowsAt, GrowsSaid, IsBare, KeepsRoomAt, MaySet, Puts, Begins, change_access, first_at, queue_at, room_at, session_at, set_session, set_session_at, shut};
+ghost use Rattle.network_links.specs.Flow.{ClearsSaid, Clears, Connects, DropsFirstAt, GrowsAt, GrowsSaid, IsBare, KeepsRoomAt, MaySet, Puts, Begins, change_access, first_at, inbox_of, queue_at, room_at, session_at, set_session, set_session_at, shut};
+ghost use Rattle.network_links.specs.Inboxes.{first_type};
 ghost use Rattle.network_links.specs.Happenings.{DrainsIn, FeedsIn};
 ghost use Rattle.network_links.specs.Quiet.{IsReached, is_quiet_at, ticked_at};
 ghost use Rattle.network_links.specs.Rests.{rest_of};
@@ -113,6 +114,21 @@ impl Traffic {
         self.peers.holder(peer)
     }
 
+    /// How many messages, and places of bad headers, wait of an outside peer; none where its connection is closed. It takes no memory.
+    pub fn inbox_len(&self, peer: u32) -> usize
+        ensures { result ≡ length (inbox_of ((flow_of self.now).accesses peer).connection) }
+    {
+        self.peers.inbox_len(peer)
+    }
+
+    /// The type of the first message that waits of an outside peer. None where none waits, or a bad header stands there. It takes no
+    /// memory.
+    pub fn first_type(&self, peer: u32) -> Option<u8>
+        ensures { result ≡ first_type (inbox_of ((flow_of self.now).accesses peer).connection) }
+    {
+        self.peers.first_type(peer)
+    }
+
     /// What a take leaves to do for an outside peer; nothing where its connection is closed. It takes no memory.
     pub fn rest(&self, peer: u32) -> Rest
         ensures { result ≡ rest_of ((flow_of self.now).accesses peer).connection }
@@ -185,6 +201,13 @@ impl Traffic {
         ensures { result ≡ not (is_empty ((flow_of self.now).queues from to)) }
     {
         self.links.is_on_its_way(from, to)
+    }
+
+    /// How many messages are on their way from one end to another; takes no memory.
+    pub fn queued(&self, from: As, to: As) -> usize
+        ensures { result ≡ length ((flow_of self.now).queues from to) }
+    {
+        self.links.queued(from, to)
     }
 
     /// Empties both queues of a link.

@@ -11,13 +11,15 @@ ghost use Rattle.pce_common.specs.Rounds.{IsNext, asked_jobs};
 ghost use Rattle.pce_parent.specs.Seen.{IsNew};
 ghost use Rattle.pce_parent.specs.Solution.{IsWeighed};
 ghost use Rattle.network_members.specs.Fresh.{AreNew, begun, parent_id};
+ghost use Rattle.std.specs.Option.{option_copied};
+ghost use Rattle.network_members.specs.Elements.{at_domain};
 ghost use Rattle.network_members.specs.Tiers.{lost_in, members_of};
 
 use crate::elements::Elements;
 use dom_base::{Addr, As, NoMemory, Tick};
 use network_links::{adjacencies_of, children_of};
 use pce_common::{AskedJob, Behind};
-use pce_element::World;
+use pce_element::{Element, World};
 use pce_parent::{Parent, copy_links};
 use plant_text::{Network, NetworkParts};
 use std::alloc::Global;
@@ -130,6 +132,20 @@ impl<W: World> Hierarchy<W> {
         ensures { result.now ≡ self.now.network }
     {
         &self.network
+    }
+
+    /// The element of a domain; takes no memory.
+    pub fn element(&self, at: As) -> Option<&Element<W>>
+        ensures { option_copied result ≡ at_domain at self.now.elements }
+    {
+        self.elements.at(at)
+    }
+
+    /// The parent, without children where the settings have none; takes no memory.
+    pub fn parent(&self) -> &Parent
+        ensures { result.now ≡ self.now.parent }
+    {
+        &self.parent
     }
 
     /// Whether there is such an element, or the parent.

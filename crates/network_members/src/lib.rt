@@ -16,6 +16,6 @@ mod ready;
 mod steps;
 
 pub use hierarchy::{Hierarchy, is_parent};
-pub use pce_element::{Blind, Refusal, Topologies};
-pub use pce_parent::{Done, Work, solve_border};
+pub use pce_element::{Blind, Element, Refusal, Topologies};
+pub use pce_parent::{Done, Parent, Work, solve_border};
 pub use plan::MemberPlan;

@@ -1,5 +1,5 @@
 -- What the rows of an ask with one entry and one target show of the domain.
-use Rattle.std.proofs.Common.{◌≡◌, ◌↔◌, ℕ, Bool, true, false, [], ◌∷◌, ◌++◌, ◌+◌, List, Some, None, inl, inr, sym, ◌∙◌, ap, subst, refl, arith, length, length-append, cond}
+use Rattle.std.proofs.Common.{◌≡◌, ℕ, [], ◌∷◌, ◌++◌, List, Some, None, inl, inr, sym, ◌∙◌, ap, subst, arith, length, length-append}
 use Rattle.std.specs.Prelude.{MatchOption, option_map, Result, Ok, Err, IfOk}
 use Rattle.dom_base.specs.declared.names.NoMemory.{NoMemory}
 use Rattle.pcep_messages.specs.declared.message.Answer.{Answer as Reply}
@@ -15,7 +15,8 @@ use Rattle.path_search.specs.Search.{AreLabels}
 use Rattle.vspt_tree.specs.declared.branch.Best.{Best}
 use Rattle.pcep_messages.specs.declared.message.Wanted.{Wanted}
 use Rattle.border_costs.specs.declared.answer.Answer.{Answer}
-use Rattle.border_costs.specs.Solutions.{AreRows, AreBest, IsBest}
+use Rattle.border_costs.specs.declared.answer.LabelledAnswer.{LabelledAnswer}
+use Rattle.border_costs.specs.Solutions.{AreRows, AreBest, AreLabelledRows, IsBest}
 use Rattle.one_domain.specs.declared.domain.Chosen.{Chosen}
 use Rattle.one_domain.specs.Domain.{target_seeds, ask_of, ShowsLeast, HasNone, IsChosen, HasLabels}
 use Rattle.one_domain.proofs.OneSeed.{segment_least, joins_label}
@@ -63,13 +64,15 @@ is_chosen g w rows rest b are is = go are.best
         let same : b ≡ some.0 = one_row rest b some.0 one in
         subst (λ (row : Best). ShowsLeast g w.query w.source w.target row.segment row.cost) (sym same) (shows g w are.seeds some.0 are.are_seeds.are some.3)
 
-pub labelled : (g : Rows) (w : Wanted) (rows : Answer) → AreRows g (ask_of g.own w) rows → HasLabels g w rows.certificate
-labelled g w rows are = record {
-  own = are.certificate.own;
-  labels = are.certificate.labels;
-  are_labels = subst (λ (s : List Seed). AreLabels g w.query s are.certificate.labels) are.are_seeds.are are.certificate.are_labels;
-  rows = are.certificate.rows;
-}
+pub labelled : (g : Rows) (w : Wanted) (told : LabelledAnswer) → AreLabelledRows g (ask_of g.own w) told → HasLabels g w told.certificate
+labelled g w told are =
+    let seeds = are.are_rows.are_seeds.are in
+    record {
+      own = are.labels.own;
+      labels = are.labels.labels;
+      are_labels = subst (λ (s : List Seed). AreLabels g w.query s are.labels.labels) seeds are.labels.are_labels;
+      rows = are.labels.rows;
+    }
 
 -- the one best way, if there is one, is the chosen path
 pub chosen_is : (g : Rows) (w : Wanted) (rows : Answer) (o : Option Chosen) → AreRows g (ask_of g.own w) rows →

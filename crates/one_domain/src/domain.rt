@@ -2,11 +2,10 @@
 ghost use Rattle.std.specs.Prelude.{◌≡◌, ◌∷◌, ◌++◌, [], Contains, List, IfOk, MatchOption};
 ghost use Rattle.border_costs.specs.Solutions.{AreRows};
 ghost use Rattle.vspt_tree.specs.declared.branch.Best.{Best};
-ghost use Rattle.one_domain.specs.Domain.{ask_of, target_seeds, HasLabels, IsBitWhere, IsChosen, IsUnknownVector};
+ghost use Rattle.one_domain.specs.Domain.{ask_of, target_seeds, IsBitWhere, IsChosen, IsUnknownVector};
 
 use border_costs::{Answer, Ask, Target, seed_of_target, solve_rows};
 use dom_base::{Addr, As, Cost, List, NoMemory, Seed};
-use path_certificate::Certificate;
 use pcep_codes::no_paths;
 use pcep_messages::Wanted;
 use std::alloc::Global;
@@ -21,13 +20,12 @@ pub struct Chosen {
 }
 
 /// What one search for a request's target gives: the chosen path from its source, if there is
-/// one; the bits of a NO-PATH-VECTOR for ends that the domain does not know (RFC 5440, section
-/// 7.5); and the labels of all nodes, as a certificate without a path.
+/// one; and the bits of a NO-PATH-VECTOR for ends that the domain does not know (RFC 5440, section
+/// 7.5).
 #[derive(Drop)]
 pub struct DomainPath {
     pub chosen: Option<Chosen>,
     pub vector: u32,
-    pub certificate: Certificate,
 }
 
 /// The seeds of a search for one target: the target, at no cost, with itself as the exit.
@@ -37,8 +35,8 @@ pub fn seeds_of(target: Addr) -> [Seed; 1]
     [seed_of_target(target)]
 }
 
-// The ask of the domain.
-fn ask_for(alloc: Global, own: As, wanted: &Wanted) -> Result<Ask, NoMemory>
+/// The ask of the domain.
+pub(crate) fn ask_for(alloc: Global, own: As, wanted: &Wanted) -> Result<Ask, NoMemory>
     ensures { IfOk result (λ ask. ask ≡ ask_of own wanted.now) }
 {
     let mut entries = List::new(alloc);
@@ -74,6 +72,14 @@ fn path_of(best: List<Best>) -> Option<Chosen>
     })
 }
 
+/// The chosen path that the rows of a request show, if there is one.
+pub(crate) fn chosen_of(_topology: &Topology, _wanted: &Wanted, rows: Answer) -> Option<Chosen>
+    requires { AreRows _topology.now (ask_of _topology.now.own _wanted.now) rows }
+    ensures { IsChosen _topology.now _wanted.now result }
+{
+    path_of(rows.best)
+}
+
 // The bit where the address is no node of the domain, and else 0.
 fn bit_of_unknown(topology: &Topology, addr: Addr, bit: u32) -> u32
     ensures { IsBitWhere (¬ Contains topology.now.nodes addr) bit result }
@@ -94,25 +100,6 @@ pub fn unknown_ends(topology: &Topology, wanted: &Wanted) -> u32
     source + target
 }
 
-// What the rows of the ask show.
-fn shown(topology: &Topology, wanted: &Wanted, rows: Answer) -> DomainPath
-    requires { AreRows topology.now (ask_of topology.now.own wanted.now) rows }
-    ensures chosen { IsChosen topology.now wanted.now result.chosen }
-    ensures vector { IsUnknownVector topology.now wanted.now.source wanted.now.target result.vector }
-    ensures labels { HasLabels topology.now wanted.now result.certificate }
-{
-    let Answer {
-        best,
-        certificate,
-        ..
-    } = rows;
-    DomainPath {
-        chosen: path_of(best),
-        vector: unknown_ends(topology, wanted),
-        certificate,
-    }
-}
-
 /// Searches one domain for the target of a request.
 pub fn search_domain(
     alloc: Global,
@@ -121,8 +108,10 @@ pub fn search_domain(
 ) -> Result<DomainPath, NoMemory>
     ensures chosen { IfOk result (λ d. IsChosen topology.now wanted.now d.chosen) }
     ensures vector { IfOk result (λ d. IsUnknownVector topology.now wanted.now.source wanted.now.target d.vector) }
-    ensures labels { IfOk result (λ d. HasLabels topology.now wanted.now d.certificate) }
 {
     let rows = rows_for(alloc, topology, wanted)?;
-    Ok(shown(topology, wanted, rows))
+    Ok(DomainPath {
+        chosen: chosen_of(topology, wanted, rows),
+        vector: unknown_ends(topology, wanted),
+    })
 }

@@ -35,7 +35,7 @@ fn path_answer(alloc: Global, metric: Metric, chosen: &Chosen) -> Result<Answer,
 pub fn answer_of(alloc: Global, topology: &Topology, wanted: &Wanted) -> Result<Answer, NoMemory>
     ensures { IfOk result (IsAnswer topology.now wanted.now) }
 {
-    let DomainPath { chosen, vector, .. } = search_domain(alloc, topology, wanted)?;
+    let DomainPath { chosen, vector } = search_domain(alloc, topology, wanted)?;
     match chosen {
         Some(chosen) => path_answer(alloc, wanted.query.metric, &chosen),
         None => Ok(Answer::NoPath {

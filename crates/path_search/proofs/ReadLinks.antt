@@ -237,21 +237,25 @@ spread_first g q start labels waiting done v places n into o = record {
 
 -- behind the last link
 pub spread_last : (g : Rows) (q : Query) (start labels : List (Option Label)) (waiting : List (Option ℕ)) (done : List Bool) (v : ℕ) (places : List ℕ) (k n : ℕ) →
-    IsLinksInto g.nodes g.links v places → length places ≤ k → IsSpreading g q start labels waiting done v places k n → IsResting g q start labels waiting done n
-spread_last g q start labels waiting done v places k n into past s = record {
-  last = s.last;
-  arcs = s.arcs;
-  read = s.read;
-  front = s.front;
-  reading = s.reading;
-  heads = s.heads;
-  whole = λ i p done_i at.
-      elim (eqb_tells i v) [
-        | inl same ↦ All-contains (Contains s.read) places p (subst (All (Contains s.read)) (take_all k places past) s.part) (into.whole p (subst (λ j. LinkEndsAt g.nodes g.links j p) same.1 at))
-        | inr differs ↦ s.whole i p differs.1 done_i at
-      ];
-  count = s.count;
-}
+    IsLinksInto g.nodes g.links v places → length places ≤ k → IsSpreading g q start labels waiting done v places k n →
+    (r : IsResting g q start labels waiting done n) × (label_at labels v ≡ Some r.last)
+spread_last g q start labels waiting done v places k n into past s = (
+  record {
+    last = s.last;
+    arcs = s.arcs;
+    read = s.read;
+    front = s.front;
+    reading = s.reading;
+    heads = s.heads;
+    whole = λ i p done_i at.
+        elim (eqb_tells i v) [
+          | inl same ↦ All-contains (Contains s.read) places p (subst (All (Contains s.read)) (take_all k places past) s.part) (into.whole p (subst (λ j. LinkEndsAt g.nodes g.links j p) same.1 at))
+          | inr differs ↦ s.whole i p differs.1 done_i at
+        ];
+    count = s.count;
+  },
+  s.at_here,
+)
 
 -- the least node that waits is settled
 pub opened : (g : Rows) (q : Query) (start labels : List (Option Label)) (waiting next : List (Option ℕ)) (done after : List Bool) (m v n : ℕ) →
@@ -354,10 +358,11 @@ found_at [] i below = absurd (omega arith)
 found_at (x ∷ xs) zero below = (x, refl)
 found_at (x ∷ xs) (suc i) below = found_at xs i (omega arith)
 
--- a link that was read ends at a node with a label
-read_reached : (g : Rows) (q : Query) (start labels : List (Option Label)) (waiting : List (Option ℕ)) (done : List Bool) (n p : ℕ) → IsTopology g →
-    (r : IsResting g q start labels waiting done n) → Contains r.read p → EndsAtLabel g labels p
-read_reached g q start labels waiting done n p valid r has =
+-- a link that was read ends at a node whose label is among those that are shown, if those of the settled nodes are
+read_reached : (g : Rows) (q : Query) (start labels shown : List (Option Label)) (waiting : List (Option ℕ)) (done : List Bool) (n p : ℕ) → IsTopology g →
+    (r : IsResting g q start labels waiting done n) → ((i : ℕ) (b : Label) → label_at labels i ≡ Some b → b.cost ≤ r.last.cost → label_at shown i ≡ Some b) →
+    Contains r.read p → EndsAtLabel g shown p
+read_reached g q start labels shown waiting done n p valid r settled has =
     let below : p < length g.links = All-contains (λ s. s < length g.links) r.read p r.reading.within has in
     let found = found_at g.links p below in
     let l : Link = found.0 in
@@ -366,12 +371,17 @@ read_reached g q start labels waiting done n p valid r has =
     let end = place_of g.nodes l.to inner.to in
     let ends : LinkEndsAt g.nodes g.links end.0 p = record { link = l; at_link = at; at_node = end.1 } in
     let s = r.front.settled end.0 (All-contains (IsHeadDone g done) r.read p r.heads has end.0 ends) in
-    record { node = end.0; ends = ends; label = s.0; at_label = s.1.0 }
+    record { node = end.0; ends = ends; label = s.0; at_label = settled end.0 s.0 s.1.0 s.1.1 }
+
+pub few_shown : (g : Rows) (q : Query) (start labels shown : List (Option Label)) (waiting : List (Option ℕ)) (done : List Bool) (n : ℕ) → IsTopology g →
+    (r : IsResting g q start labels waiting done n) → ((i : ℕ) (b : Label) → label_at labels i ≡ Some b → b.cost ≤ r.last.cost → label_at shown i ≡ Some b) →
+    (places : List ℕ) → ((p : ℕ) → EndsAtLabel g shown p → Contains places p) → n ≤ length places
+few_shown g q start labels shown waiting done n valid r settled places whole =
+    omega (arith, fits_in r.read places r.reading.apart (λ p has. whole p (read_reached g q start labels shown waiting done n p valid r settled has)), r.count)
 
 pub few_reached : (g : Rows) (q : Query) (start labels : List (Option Label)) (waiting : List (Option ℕ)) (done : List Bool) (n : ℕ) → IsTopology g →
     IsResting g q start labels waiting done n → (places : List ℕ) → ((p : ℕ) → EndsAtLabel g labels p → Contains places p) → n ≤ length places
-few_reached g q start labels waiting done n valid r places whole =
-    omega (arith, fits_in r.read places r.reading.apart (λ p has. whole p (read_reached g q start labels waiting done n p valid r has)), r.count)
+few_reached g q start labels waiting done n valid r places whole = few_shown g q start labels labels waiting done n valid r (λ i b is _. is) places whole
 
 abbrev pub weighs : Bool → ℕ
 weighs true = 0

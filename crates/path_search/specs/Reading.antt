@@ -81,11 +81,11 @@ abbrev pub SpreadsLink : Rows → Query → ℕ → List (Option Label) → List
 SpreadsLink g q p old new waiting next =
     (IsIdle g q old p × ((new ≡ old) × (next ≡ waiting))) ⊎ ((a : Arc) × (IsArcOf g q p a × Spreads q.cap a old new waiting next))
 
--- all links into a node that was just settled are read, and their arcs relaxed
+-- all links into a node that was just settled are read, and their arcs relaxed: no label that is settled costs more than the node's
 abbrev pub SpreadsNode : Rows → Query → ℕ → List (Option Label) → List (Option Label) → List (Option ℕ) → List (Option ℕ) → ℕ → ℕ → Type 0
 SpreadsNode g q v old new waiting next reads reads' =
     (start : List (Option Label)) (done : List Bool) (n : ℕ) → IsOpened g q start old waiting done v n →
-    (m : ℕ) × (IsResting g q start new next done m × (reads' + n ≤ reads + m))
+    (m : ℕ) × (r : IsResting g q start new next done m) × (label_at new v ≡ Some r.last) × (reads' + n ≤ reads + m)
 
 -- from the labels of walks without a link to those of all walks
 abbrev pub FindsLabels : Rows → Query → List (Option Label) → List (Option Label) → Type 0

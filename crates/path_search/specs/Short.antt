@@ -46,6 +46,14 @@ pub record AreShort (exits : List Addr) (rows : List Short) : Type 0 where
   pub rise : DoRise exits
   pub each : All (IsShort exits) rows
 
+-- none in the place of a label that costs more
+abbrev pub cut_short_if : Bool → Short → Short
+cut_short_if true s = record { cost = NOTHING; exit = s.exit }
+cut_short_if false s = s
+
+abbrev pub cut_short : ℕ → Short → Short
+cut_short c s = cut_short_if (nat_lt c s.cost) s
+
 -- what stands where there is no label
 abbrev pub no_label : Short
 no_label = record { cost = NOTHING; exit = 0 }

@@ -1,8 +1,9 @@
 //! Labels as pairs of numbers.
-ghost use Rattle.std.specs.Prelude.{◌≤◌, ◌+◌, ◌↔◌, IsTrue, SomeIff};
+ghost use Rattle.std.specs.Prelude.{◌≡◌, ◌≤◌, ◌+◌, ◌↔◌, IsTrue, SomeIff, map};
 ghost use Rattle.dom_base.specs.declared.limits.TheConstants.{COST_MAX};
-ghost use Rattle.path_search.specs.Short.{IsLess, put_before};
+ghost use Rattle.path_search.specs.Short.{IsLess, put_before, cut_short};
 
+use crate::blocks::NOTHING;
 use dom_base::Cost;
 
 /// A label: its cost, and the place of its exit among the exits. Where the cost is `NOTHING` there
@@ -50,5 +51,30 @@ pub(crate) fn lowered(cap: Cost, weight: u32, rest: Short, old: Short) -> Option
         Some(found)
     } else {
         None
+    }
+}
+
+// A label, or none where it costs more than this.
+fn cut_row(row: Short, most: u32) -> Short
+    ensures { result ≡ cut_short most row }
+{
+    if most < row.cost {
+        Short {
+            cost: NOTHING,
+            exit: row.exit,
+        }
+    } else {
+        row
+    }
+}
+
+/// Puts none in the place of each label that costs more than this.
+pub(crate) fn cut_rows(rows: &mut [Short], most: Cost)
+    ensures rows { rows.new ≡ map (cut_short most) rows.old }
+    ensures bound { most ≤ COST_MAX }
+{
+    let number = most.get();
+    for row in rows.iter_mut() {
+        *row = cut_row(*row, number);
     }
 }

@@ -4,7 +4,7 @@ ghost use Rattle.std.specs.Option.{option_copied};
 ghost use Rattle.request_table.specs.Pending.{same_peer};
 ghost use Rattle.path_keys.specs.Keys.{live_at, live_most, segment_of};
 ghost use Rattle.disclosure.specs.Policy.{is_denied};
-ghost use Rattle.pce_common.specs.plant_model.Element.{sent_through, way_to};
+ghost use Rattle.pce_common.specs.plant_model.Element.{ready_numbers, sent_through, way_to};
 ghost use Rattle.pce_common.specs.plant_model.Names.{same_addr};
 ghost use Rattle.pce_common.specs.plant_model.Routes.{toward};
 
@@ -59,6 +59,27 @@ impl<W: World> Element<W> {
         ensures few { result ≤ 1024 }
     {
         self.requests.len()
+    }
+
+    /// How many requests were accepted so far; takes no memory.
+    pub fn given(&self) -> u64
+        ensures { result ≡ self.now.losing.element.pending.given }
+    {
+        self.requests.given()
+    }
+
+    /// How many requests can be solved; takes no memory.
+    pub fn ready_count(&self) -> usize
+        ensures { result ≡ length (ready_numbers self.now.losing.element.pending.rows) }
+    {
+        self.requests.ready_count()
+    }
+
+    /// How many more keys may be live; takes no memory.
+    pub fn free_keys(&self, now: Tick) -> u32
+        ensures { result + length (live_at self.now.losing.element.keys now.0) ≡ live_most }
+    {
+        self.keys.free(now)
     }
 
     /// How many requests of a peer are pending; takes no memory.
@@ -131,12 +152,5 @@ impl<W: World> Element<W> {
         ensures { result ≡ self.now.losing.element.keys.next }
     {
         self.keys.next()
-    }
-
-    /// How many more keys may be live.
-    pub(crate) fn free_keys(&self, now: Tick) -> u32
-        ensures { result + length (live_at self.now.losing.element.keys now.0) ≡ live_most }
-    {
-        self.keys.free(now)
     }
 }

@@ -200,6 +200,29 @@ impl<W: World> PinnedRequests<W> {
         Leaves::Stays
     }
 
+    /// How many requests were accepted so far.
+    pub fn given(&self) -> u64
+        ensures { result ≡ self.now.pending.given }
+    {
+        self.last
+    }
+
+    /// How many requests can be solved.
+    pub fn ready_count(&self) -> usize
+        ensures { result ≡ length (ready_numbers self.now.pending.rows) }
+    {
+        let mut count = 0;
+        for i in 0..self.len() {
+            let Some(row) = self.row(i) else {
+                unreachable!()
+            };
+            if row.item.is_ready() {
+                count += 1;
+            }
+        }
+        count
+    }
+
     /// The number of the k-th request that can be solved.
     pub fn ready(&self, k: usize) -> Option<u64>
         ensures { result ≡ slice_get (ready_numbers self.now.pending.rows) k }

@@ -1,10 +1,10 @@
 //! A world with topologies: the current one, and those that pending requests pin.
-ghost use Rattle.std.specs.Prelude.{◌≡◌, ◌≤◌, ◌<◌, ◌↔◌, suc, Err, IsTrue, IfOk, OnOk, OnErr};
+ghost use Rattle.std.specs.Prelude.{◌≡◌, ◌≤◌, ◌<◌, ◌↔◌, length, suc, Err, IsTrue, IfOk, OnOk, OnErr};
 ghost use Rattle.std.specs.Option.{option_map};
 ghost use Rattle.std.specs.Arc.{arc_value};
 ghost use Rattle.disclosure.specs.Shown.{open_of};
 ghost use Rattle.request_table.specs.Pending.{item_of};
-ghost use Rattle.pce_common.specs.plant_model.Plant.{first_pin, is_full};
+ghost use Rattle.pce_common.specs.plant_model.Plant.{first_pin, is_full, live_numbers};
 ghost use Rattle.pce_element.specs.Committing.{own_part};
 ghost use Rattle.pce_element.specs.Rows.{pin_in, pin_with};
 ghost use Rattle.pce_element.specs.Seen.{SameButRoom, with_current};
@@ -126,6 +126,12 @@ impl PinnedRequests<Topologies> {
         Ok((self.world.generations.current(), topology))
     }
 
+    fn live(&self) -> usize
+        ensures { result ≡ length (live_numbers self.now.current.number self.now.pending.rows) }
+    {
+        self.world.generations.live()
+    }
+
     /// The topology that a request pins, with its number, as a further owner of it.
     pub fn pinned(&self, number: u64) -> Result<Option<(u64, Arc<Topology>)>, NoMemory>
         ensures { IfOk result (λ pin. option_map (λ p. pin_with p.0 (arc_value p.1)) pin ≡ option_map pin_in (item_of self.now.pending number)) }
@@ -156,5 +162,12 @@ impl Element<Topologies> {
         ensures { IfOk result (λ latest. pin_with latest.0 (arc_value latest.1) ≡ self.now.current) }
     {
         self.requests.latest()
+    }
+
+    /// How many topologies are current or asked of; takes no memory.
+    pub fn live(&self) -> usize
+        ensures { result ≡ length (live_numbers self.now.current.number self.now.losing.element.pending.rows) }
+    {
+        self.requests.live()
     }
 }

@@ -1,6 +1,7 @@
 //! The program: makes the real files, input and output, and runs the words that it is given.
 #![tactic(auto)]
 
+mod awake;
 mod errors;
 mod help;
 mod meaning;

@@ -1,11 +1,10 @@
 //! The command `serve`: a network over the real files, ports, threads, input and output.
+use crate::awake::AwakeClock;
 use crate::errors::{Answers, StandardError};
 use crate::patient::Patient;
 use crate::ports::NamedPorts;
 use dom_base::{NoMemory, Text};
-use dom_edge::{
-    FileFolder, FileStore, InputSource, OutputSink, SocketPorts, WallCalendar, WallClock,
-};
+use dom_edge::{FileFolder, FileStore, InputSource, OutputSink, SocketPorts, WallCalendar};
 use network_serving::{Recording, Served, Spawner, ThreadSpawner, serve};
 use plant_text::NetFault;
 use std::env::{self, VarError};
@@ -173,7 +172,7 @@ where
         store,
         &mut NamedPorts::new(*rt, SocketPorts::new(*rt, alloc, address)),
         &mut spawner,
-        &mut WallClock::new(*rt),
+        &mut AwakeClock::new(*rt),
         FileStore::new(alloc, *rt),
         InputSource::new(Patient::new(*rt, rt.reader())),
         Answers::new(*rt, OutputSink::new(Patient::new(*rt, rt.stdout()))),

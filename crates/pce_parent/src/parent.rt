@@ -112,6 +112,13 @@ impl Parent {
         self.requests.len()
     }
 
+    /// How many requests were accepted so far; takes no memory.
+    pub fn given(&self) -> u64
+        ensures { result ≡ self.now.losing.parent.pending.given }
+    {
+        self.last
+    }
+
     /// How many requests of a peer are pending; takes no memory.
     pub fn owed(&self, peer: Peer) -> usize
         ensures { result ≡ length (filter (λ h. same_peer h.1.key.peer peer) self.now.losing.parent.pending.rows) }

@@ -61,6 +61,20 @@ impl Session {
         }
     }
 
+    /// The state of the session; takes no memory.
+    pub fn phase(&self) -> Phase
+        ensures { result ≡ self.now.phase }
+    {
+        self.state.phase
+    }
+
+    /// The moment at which it came into its state; takes no memory.
+    pub fn since(&self) -> Tick
+        ensures { result ≡ self.now.since }
+    {
+        self.state.since
+    }
+
     /// One step of the session: the row of its table for this input; takes no memory. A tick that is
     /// earlier than the last one counts as that one.
     pub fn step(&mut self, input: Input) -> Actions

@@ -84,9 +84,9 @@ pub fn solves_tell()
     ensures { SolvesTell }
 {}
 
-/// The certificate of a solve's own rows meets the conditions over the topology that the element had when it
-/// took the request, from the seeds that the taken reply gives, of the next domain's element or of the outside
-/// peer that was asked for it.
+/// A solve's own rows are right, and each certificate of its job meets the conditions, over the topology that
+/// the element had when it took the request, from the seeds that the taken reply gives, of the next domain's
+/// element or of the outside peer that was asked for it.
 pub fn solves_certify()
     ensures { SolvesCertify }
 {}

@@ -23,10 +23,9 @@ pub data Act : Type 0 where
   Solve : (at : As) → (number : ℕ) → List Best → (source_known target_known : Bool) → Act
   Join : (number : ℕ) → Option Found → Act
 
--- the findings of a solve, without its certificate
-abbrev pub rows_with : As → List Best → Bool → Bool → Answer
-rows_with own best source_known target_known =
-    record { best = best; source_known = source_known; target_known = target_known; certificate = record { own = own; labels = []; path = None } }
+-- the findings of a solve
+abbrev pub rows_with : List Best → Bool → Bool → Answer
+rows_with best source_known target_known = record { best = best; source_known = source_known; target_known = target_known }
 
 abbrev pub down_of : Stage → List Branch
 down_of (Waits on id) = []
@@ -43,7 +42,7 @@ module _ (n : NetworkParts) where
 
   abbrev pub act : Act → Plant → Happened
   act (Do e) s = happened wire n s e
-  act (Solve d k best known known') s = solve d k (rows_with d best known known') s (lookup (nat_eq k) (s.elements d).pending.rows)
+  act (Solve d k best known known') s = solve d k (rows_with best known known') s (lookup (nat_eq k) (s.elements d).pending.rows)
   act (Join k a) s = join k a s (lookup (nat_eq k) s.parent.pending.rows)
 
   -- the state after acts, one after the other, from the opening state on

@@ -75,6 +75,21 @@ impl<W: World> Network<W> {
         self.members.network()
     }
 
+    /// Its elements and their parent, to be read.
+    pub fn members(&self) -> &Hierarchy<W>
+        ensures { result.now ≡ self.now.members }
+    {
+        &self.members
+    }
+
+    /// Its clock, connections, links and queues, to be read.
+    pub fn traffic(&self) -> &Traffic
+        ensures traffic { result.now ≡ self.now.carried }
+        ensures along { (flow_of result.now).adjacencies ≡ adjacencies (whole W.first self.now).network }
+    {
+        &self.traffic
+    }
+
     /// The messages that the last accepted event put into queues, in order; takes no memory.
     pub fn said(&self) -> &Said
         ensures { result.now.kept ≡ (whole W.first self.now).said }

@@ -3,8 +3,8 @@ use Rattle.std.proofs.Common.{◌≡◌, ℕ, Bool, true, false, cond, ◌&&◌,
 use Rattle.std.specs.Arc.{arc_value}
 use Rattle.plant_network.specs.plant_model.Types.{BorderRow, Job}
 use Rattle.path_certificate.specs.declared.certificate.Certificate.{Certificate}
-use Rattle.border_costs.specs.declared.answer.Answer.{Answer}
-use Rattle.border_costs.specs.Solutions.{AreRows}
+use Rattle.border_costs.specs.declared.answer.LabelledAnswer.{LabelledAnswer}
+use Rattle.border_costs.specs.Solutions.{AreLabelledRows}
 use Rattle.plant_network.specs.plant_model.Blind.{is_accepted}
 use Rattle.plant_network.specs.plant_model.Events.{Answered}
 use Rattle.plant_network.specs.plant_model.declared.event.Event.{Event}
@@ -29,11 +29,11 @@ always (Ok x) h = h
 always (Err x) h = tt
 
 -- the labels of the very job that was solved
-pub labels_told : (line : ℕ) (shown : Bool) (job : Job) (rows : Answer) (b0 b1 : Told) → AreRows (arc_value job.topology) job.ask rows →
+pub labels_told : (line : ℕ) (shown : Bool) (job : Job) (rows : LabelledAnswer) (b0 b1 : Told) → AreLabelledRows (arc_value job.topology) job.ask rows →
     b1 ≡ behind b0 (certificate_text line (cond shown (Some rows.certificate) None)) → LabelsIf line shown job b0 b1
 labels_told line true job rows b0 b1 are told = record {
   certificate = Some rows.certificate;
-  is_certificate = record { seeds = are.seeds; are_seeds = are.are_seeds; labels = are.certificate };
+  is_certificate = record { seeds = are.are_rows.seeds; are_seeds = are.are_rows.are_seeds; labels = are.labels };
   tells = told;
 }
 labels_told line false job rows b0 b1 are told = record { certificate = None; is_certificate = refl; tells = told }

@@ -15,7 +15,7 @@ ghost use Rattle.plant_play.specs.Turns.{event_line};
 use crate::PlayError;
 use crate::log::{Log, write_answer, write_carry, write_solve, write_take};
 use crate::showing::{Modes, job_to_show, write_brought, write_labels_if};
-use border_costs::{Job, solve};
+use border_costs::{Job, solve_labelled};
 use dom_base::{As, NoMemory};
 use plant_network::model::{Event, Outcome, Refused};
 use plant_network::{Done, Plant};
@@ -106,8 +106,8 @@ fn solve_shown(
     ensures makes { IfOk result (λ answer. Makes (whole plant.old) _event.now answer (whole plant.new)) }
     ensures labels { OnOk result (LabelsIf line modes.certify job.now labels.old labels.new) }
 {
-    let solved = solve(alloc, job)?;
-    write_labels_if(line, modes.certify, &solved, labels)?;
+    let (solved, certificate) = solve_labelled(alloc, job)?;
+    write_labels_if(line, modes.certify, &certificate, labels)?;
     committed(plant, Done::Domain(solved))
 }
 

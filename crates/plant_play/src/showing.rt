@@ -11,9 +11,10 @@ ghost use Rattle.plant_play.specs.Making.{Brings, IsToShow, LabelsIf, Shown, Tab
 ghost use Rattle.plant_play.specs.Turns.{certificate_text, tells_closed};
 
 use crate::log::{Log, write_certified, write_log, write_rows, write_said};
-use border_costs::{Job, Solved, border_table};
+use border_costs::{Job, border_table};
 use disclosure::Class;
 use dom_base::{NoMemory, Peer};
+use path_certificate::Certificate;
 use plant_network::model::{Event, Outcome, Refused};
 use plant_network::{Plant, Work};
 use plant_text::PeerRow;
@@ -116,13 +117,13 @@ fn write_table_if(
 pub(crate) fn write_labels_if(
     line: u32,
     shown: bool,
-    solved: &Solved,
+    certificate: &Certificate,
     into: &mut Log,
 ) -> Result<(), NoMemory>
-    ensures { OnOk result (into.new ≡ behind into.old (certificate_text line (cond shown (Some solved.now.rows.certificate) None))) }
+    ensures { OnOk result (into.new ≡ behind into.old (certificate_text line (cond shown (Some certificate.now) None))) }
 {
     if shown {
-        write_certified(line, solved.certificate(), into)
+        write_certified(line, certificate, into)
     } else {
         Ok(())
     }

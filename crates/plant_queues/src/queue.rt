@@ -78,6 +78,14 @@ impl Queue {
         }
     }
 
+    /// How many messages there are.
+    pub fn len(&self) -> usize
+        ensures { result ≡ length self.now.kept }
+    {
+        let (front, back) = self.lengths.as_slices();
+        front.len() + back.len()
+    }
+
     /// Whether there is no message.
     pub fn is_empty(&self) -> bool
         ensures { result ≡ (length self.now.kept == 0) }

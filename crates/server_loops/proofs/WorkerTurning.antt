@@ -10,15 +10,16 @@ use Rattle.dom_base.specs.declared.names.NoMemory.{NoMemory}
 use Rattle.pce_parent.specs.declared.work.Work.{Work}
 use Rattle.pce_parent.specs.declared.work.Work.TheVariants.{Domain, Border}
 use Rattle.pce_parent.specs.declared.work.Done.{Done}
+use Rattle.border_costs.specs.declared.job.Job.{Job}
 use Rattle.cost_cache.specs.Entries.{Entries}
 use Rattle.cost_cache.specs.Keys.{key_of}
 use Rattle.cost_cache.specs.declared.key.Key.{Key}
 use Rattle.server_loops.specs.Benches.{Call, Ready, Look, Finish, Benched, Goes, IsOf, made_by}
 use Rattle.server_loops.specs.WorkerTurns.{Asks, Follows, IsTurn, IsCut, given_job, given_key, jobs_given, keys_given, key_of_work}
-use Rattle.server_loops.specs.WorkerSteps.{AreRight, Holds, IsLive, OnlyAdds, AsksBy, FollowsBy, TurnBy, IsFound, IsFinished, IsTurned}
+use Rattle.server_loops.specs.WorkerSteps.{AreSound, IsLast, IsLive, OnlyAdds, AsksBy, FollowsBy, TurnBy, IsFound, IsFinished, IsTurned}
 use Rattle.server_loops.specs.declared.benches.Finished.{Finished}
 use Rattle.server_loops.specs.declared.benches.Finished.TheVariants.{Kept as Taken, Stranger, NoMemory as NoRoom}
-use Rattle.server_loops.proofs.Righting.{right_grows}
+use Rattle.server_loops.proofs.Righting.{sound_grows}
 
 pub stays_of : (old new : Benched) (call : Call) → Goes old new call → OnlyAdds old new
 stays_of old new call goes = record { topologies = goes.topologies; spent = goes.stays }
@@ -99,8 +100,8 @@ module _ (index : ℕ) (old mid new : Benched) (found : Option (As × ℕ)) (fir
   found_two = found_by mid.spent new.spent refl refl
 
 -- a job that was not solved since memory ran out
-pub unsolved : (work : Work) (b : Benched) (before after : Entries) (e : NoMemory) → IsLive b → IsFinished work (Err e) b b before after
-unsolved work b before after e live = record {
+pub unsolved : (work : Work) (b : Benched) (before : Option Job) (cache : Entries) (last : Option Job) (e : NoMemory) → IsLive b → IsFinished work (Err e) b b before cache last
+unsolved work b before cache last e live = record {
   made = [];
   calls = sym (append-nil b.calls);
   stays = stays_here b;
@@ -110,8 +111,9 @@ unsolved work b before after e live = record {
 }
 
 -- a solution that found no room
-pub no_room : (work : Work) (old new : Benched) (before after : Entries) (done : Done) (e : NoMemory) → IsOf done work → Goes old new (Finish done NoRoom) → IsFinished work (Err e) old new before after
-no_room work old new before after done e is_of goes = record {
+pub no_room : (work : Work) (old new : Benched) (before : Option Job) (cache : Entries) (last : Option Job) (done : Done) (e : NoMemory) → IsOf done work → Goes old new (Finish done NoRoom) →
+    IsFinished work (Err e) old new before cache last
+no_room work old new before cache last done e is_of goes = record {
   made = Finish done NoRoom ∷ [];
   calls = one_call old new (Finish done NoRoom) goes (none_of new.spent (λ t is. let idle : NoRoom ≡ Stranger = goes.idle t is in cc));
   stays = stays_of old new (Finish done NoRoom) goes;
@@ -121,14 +123,14 @@ no_room work old new before after done e is_of goes = record {
 }
 
 -- one that was taken, came too late, or was not handed back since the bench is spent
-module _ (work : Work) (old new : Benched) (before after : Entries) (done : Done) (answer : Finished) (is_of : IsOf done work) (room : answer ≢ NoRoom) (goes : Goes old new (Finish done answer))
-    (holds : Holds (key_of_work work) before after) (right : AreRight old.topologies after) where
-  back_by : (s : Option ℕ) → new.spent ≡ s → IsFinished work (Ok tt) old new before after
+module _ (work : Work) (old new : Benched) (before : Option Job) (cache : Entries) (last : Option Job) (done : Done) (answer : Finished) (is_of : IsOf done work) (room : answer ≢ NoRoom)
+    (goes : Goes old new (Finish done answer)) (is_last : IsLast (key_of_work work) before last) (sound : AreSound old.topologies cache last) where
+  back_by : (s : Option ℕ) → new.spent ≡ s → IsFinished work (Ok tt) old new before cache last
   back_by None is = let stays = stays_of old new (Finish done answer) goes in record {
     made = Finish done answer ∷ [];
     calls = one_call old new (Finish done answer) goes is;
     stays = stays;
-    ends = (subst (λ (s : Option ℕ). FollowsBy s work (Finish done answer ∷ [])) (sym is) (done, answer, is_of, room, refl), holds, right_grows old new after stays right);
+    ends = (subst (λ (s : Option ℕ). FollowsBy s work (Finish done answer ∷ [])) (sym is) (done, answer, is_of, room, refl), is_last, sound_grows old new cache last stays sound);
     no_jobs = refl;
     no_keys = refl;
   }
@@ -136,12 +138,12 @@ module _ (work : Work) (old new : Benched) (before after : Entries) (done : Done
     made = [];
     calls = no_call old new (Finish done answer) t goes is ∙ sym (append-nil old.calls);
     stays = stays;
-    ends = (subst (λ (s : Option ℕ). FollowsBy s work []) (sym is) ((done, is_of), refl), holds, right_grows old new after stays right);
+    ends = (subst (λ (s : Option ℕ). FollowsBy s work []) (sym is) ((done, is_of), refl), is_last, sound_grows old new cache last stays sound);
     no_jobs = refl;
     no_keys = refl;
   }
 
-  pub handed_back : IsFinished work (Ok tt) old new before after
+  pub handed_back : IsFinished work (Ok tt) old new before cache last
   handed_back = back_by new.spent refl
 
 jobs_on : (xs ys : List Call) → jobs_given xs ≡ [] → jobs_given (xs ++ ys) ≡ jobs_given ys
@@ -160,9 +162,9 @@ no_job index (Some t) made asks =
       | inr once ↦ subst (λ (cs : List Call). IsCut index cs) (sym once) (Ready 0 None, [], twice)
     ]
 
-pub idle_turn : (index : ℕ) (old new : Benched) (passed : List (As × ℕ)) (cache : Entries) → IsFound index old new None → AreRight old.topologies cache →
-    IsTurned index (Ok tt) old new passed passed cache cache
-idle_turn index old new passed cache f right = record {
+pub idle_turn : (index : ℕ) (old new : Benched) (passed : List (As × ℕ)) (cache : Entries) (last : Option Job) → IsFound index old new None → AreSound old.topologies cache last →
+    IsTurned index (Ok tt) old new passed passed last cache last
+idle_turn index old new passed cache last f sound = record {
   made = f.made;
   calls = f.calls;
   stays = f.stays;
@@ -171,8 +173,8 @@ idle_turn index old new passed cache f right = record {
     turn = no_job index new.spent f.made f.asks;
     key = None;
     keys = f.no_keys;
-    holds = refl;
-    right = right_grows old new cache f.stays right;
+    is_last = refl;
+    sound = sound_grows old new cache last f.stays sound;
   };
 }
 
@@ -194,8 +196,8 @@ looked_turn index made more job answer asks follows = record {
 }
 
 -- the job is no longer ready
-module _ (index : ℕ) (old mid new : Benched) (passed : List (As × ℕ)) (cache : Entries) (job : As × ℕ) (f : IsFound index old mid (Some job)) (looked : Goes mid new (Look job.0 job.1 (Ok None)))
-    (right : AreRight old.topologies cache) where
+module _ (index : ℕ) (old mid new : Benched) (passed : List (As × ℕ)) (cache : Entries) (last : Option Job) (job : As × ℕ) (f : IsFound index old mid (Some job))
+    (looked : Goes mid new (Look job.0 job.1 (Ok None))) (sound : AreSound old.topologies cache last) where
   abbrev none_there : Call
   none_there = Look job.0 job.1 (Ok None)
 
@@ -205,7 +207,7 @@ module _ (index : ℕ) (old mid new : Benched) (passed : List (As × ℕ)) (cach
   abbrev late : IsTurn index (f.made ++ none_there ∷ [])
   late = looked_turn index f.made [] job (Ok None) (asks_of index mid.spent f.made job f.asks) refl
 
-  late_by : (s : Option ℕ) → new.spent ≡ s → IsTurned index (Ok tt) old new passed passed cache cache
+  late_by : (s : Option ℕ) → new.spent ≡ s → IsTurned index (Ok tt) old new passed passed last cache last
   late_by None is = record {
     made = f.made ++ none_there ∷ [];
     calls = joined old mid new f.made (none_there ∷ []) f.calls (one_call mid new none_there looked is);
@@ -215,8 +217,8 @@ module _ (index : ℕ) (old mid new : Benched) (passed : List (As × ℕ)) (cach
       turn = subst (λ (s : Option ℕ). TurnBy s index (f.made ++ none_there ∷ [])) (sym is) late;
       key = None;
       keys = keys_on f.made (none_there ∷ []) f.no_keys;
-      holds = refl;
-      right = right_grows old new cache stays_late right;
+      is_last = refl;
+      sound = sound_grows old new cache last stays_late sound;
     };
   }
   late_by (Some t) is = record {
@@ -228,18 +230,18 @@ module _ (index : ℕ) (old mid new : Benched) (passed : List (As × ℕ)) (cach
       turn = subst (λ (s : Option ℕ). TurnBy s index f.made) (sym is) (none_there, [], late);
       key = None;
       keys = f.no_keys;
-      holds = refl;
-      right = right_grows old new cache stays_late right;
+      is_last = refl;
+      sound = sound_grows old new cache last stays_late sound;
     };
   }
 
-  pub late_turn : IsTurned index (Ok tt) old new passed passed cache cache
+  pub late_turn : IsTurned index (Ok tt) old new passed passed last cache last
   late_turn = late_by new.spent refl
 
 -- there was no memory for the job
-pub broken_look : (index : ℕ) (old mid new : Benched) (passed : List (As × ℕ)) (cache : Entries) (job : As × ℕ) (e : NoMemory) → IsFound index old mid (Some job) → Goes mid new (Look job.0 job.1 (Err e)) →
-    IsTurned index (Err e) old new passed passed cache cache
-broken_look index old mid new passed cache job e f looked =
+pub broken_look : (index : ℕ) (old mid new : Benched) (passed : List (As × ℕ)) (cache : Entries) (last : Option Job) (job : As × ℕ) (e : NoMemory) → IsFound index old mid (Some job) →
+    Goes mid new (Look job.0 job.1 (Err e)) → IsTurned index (Err e) old new passed passed last cache last
+broken_look index old mid new passed cache last job e f looked =
     let look = Look job.0 job.1 (Err e) in
     let live : IsLive new = λ t is. let idle : Err e ≡ Ok None = looked.idle t is in cc in
     record {
@@ -270,8 +272,8 @@ key_list : (work : Work) (rest : List Call) (job : As × ℕ) → keys_given res
 key_list (Domain d) rest job none = ap (λ (ks : List Key). key_of d.ask ∷ ks) none
 key_list (Border d) rest job none = none
 
-module _ (index : ℕ) (old mid looked_at new : Benched) (passed : List (As × ℕ)) (before after : Entries) (job : As × ℕ) (work : Work) (f : IsFound index old mid (Some job))
-    (looked : Goes mid looked_at (Look job.0 job.1 (Ok (Some work)))) where
+module _ (index : ℕ) (old mid looked_at new : Benched) (passed : List (As × ℕ)) (before : Option Job) (cache : Entries) (last : Option Job) (job : As × ℕ) (work : Work)
+    (f : IsFound index old mid (Some job)) (looked : Goes mid looked_at (Look job.0 job.1 (Ok (Some work)))) where
   abbrev look : Call
   look = Look job.0 job.1 (Ok (Some work))
 
@@ -293,7 +295,7 @@ module _ (index : ℕ) (old mid looked_at new : Benched) (passed : List (As × �
   on_calls made is = joined old looked_at new (f.made ++ look ∷ []) made looked_calls is ∙ ap (λ (cs : List Call). old.calls ++ cs) (append_assoc f.made (look ∷ []) made)
 
   -- a job that was given is finished, or there was no memory
-  pub full_turn : (end : Result (Unit {0}) NoMemory) → IsFinished work end looked_at new before after → IsTurned index end old new passed (passed ++ job ∷ []) before after
+  pub full_turn : (end : Result (Unit {0}) NoMemory) → IsFinished work end looked_at new before cache last → IsTurned index end old new passed (passed ++ job ∷ []) before cache last
   full_turn (Ok u) d = record {
     made = f.made ++ (look ∷ d.made);
     calls = on_calls d.made d.calls;
@@ -303,8 +305,8 @@ module _ (index : ℕ) (old mid looked_at new : Benched) (passed : List (As × �
       turn = finished_by new.spent d.made d.ends.0;
       key = key_of_work work;
       keys = keys_on f.made (look ∷ d.made) f.no_keys ∙ key_list work d.made job d.no_keys;
-      holds = d.ends.1;
-      right = d.ends.2;
+      is_last = d.ends.1;
+      sound = d.ends.2;
     };
   }
   full_turn (Err e) d = record {

@@ -84,13 +84,14 @@ pub record Stops (index turns : ℕ) (calls : List Call) : Type 0 where
   pub cut : IsCut index part
   pub is : calls ≡ whole ++ part
 
--- The calls of a run by its end: all turns; those before the call at which the bench was spent; or those before a turn that want of
--- memory ended, and that turn.
+-- The calls of a run by its end: all turns; those before the call at which the bench was spent; or, where memory ran out, those before a
+-- turn that this ended and that turn, or, since what a worker keeps takes memory too, those of a run that stops anywhere.
 abbrev pub Ends : ℕ → ℕ → Worked → List Call → Type 0
 Ends index turns Turns calls = AreTurns index turns calls
 Ends index turns (Spent t) calls = Stops index turns calls
 Ends index turns WantOfMemory calls =
-    (n : ℕ) × (whole : List Call) × (broken : List Call) × (n < turns) × AreTurns index n whole × IsBroken index broken × (calls ≡ whole ++ broken)
+    ((n : ℕ) × (whole : List Call) × (broken : List Call) × (n < turns) × AreTurns index n whole × IsBroken index broken × (calls ≡ whole ++ broken))
+    ⊎ Stops index turns calls
 
 -- the job that passes the gate: one that a look gave
 abbrev pub given_job : Call → Option (As × ℕ)

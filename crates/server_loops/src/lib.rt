@@ -26,6 +26,7 @@ mod taking;
 mod texts;
 mod ticking;
 mod turn;
+mod unkept;
 mod worker_turn;
 mod working;
 

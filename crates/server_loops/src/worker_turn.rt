@@ -3,11 +3,12 @@ ghost use Rattle.std.specs.Prelude.{◌≡◌, ℕ, Contains, Some, Ok};
 ghost use Rattle.dom_base.specs.declared.names.As.{As};
 ghost use Rattle.server_loops.specs.Benches.{Look, IsGiven};
 ghost use Rattle.server_loops.specs.Sites.{Stays};
-ghost use Rattle.server_loops.specs.WorkerSteps.{AreRight, IsLive, IsFound, IsFinished, IsTurned};
+ghost use Rattle.server_loops.specs.WorkerSteps.{AreSound, IsLive, IsFound, IsFinished, IsTurned};
 
 use crate::benches::{Bench, Finished};
 use crate::gates::Gate;
 use crate::solving::solve;
+use crate::unkept::Unkept;
 use cost_cache::Cache;
 use dom_base::{As, NoMemory};
 use pce_parent::Work;
@@ -29,21 +30,25 @@ fn finish<B: Bench>(
     alloc: Global,
     bench: &mut B,
     cache: &mut Cache,
-    work: &Work,
+    unkept: &mut Unkept,
+    work: Work,
     _at: As,
     _number: u64,
 ) -> Result<(), NoMemory>
-    requires looked { Contains (B.benched bench.old).calls (Look _at _number (Ok (Some work.now))) }
-    requires given { IsGiven (B.benched bench.old) work.now }
+    requires looked { Contains (B.benched bench.old).calls (Look _at _number (Ok (Some work))) }
+    requires given { IsGiven (B.benched bench.old) work }
     requires live { IsLive (B.benched bench.old) }
-    requires right { AreRight (B.benched bench.old).topologies cache.old }
-    ensures finished { IsFinished work.now result (B.benched bench.old) (B.benched bench.new) cache.old cache.new }
+    requires sound { AreSound (B.benched bench.old).topologies cache.old unkept.old.last }
+    ensures finished { IsFinished work result (B.benched bench.old) (B.benched bench.new) unkept.old.last cache.new unkept.new.last }
     ensures stays { Stays B.is_at bench.old bench.new }
 {
-    let done = solve(alloc, cache, work)?;
+    let done = solve(alloc, cache, unkept, &work)?;
     match bench.finish(done) {
         Finished::NoMemory => Err(NoMemory),
-        Finished::Kept | Finished::Stranger => Ok(()),
+        Finished::Kept | Finished::Stranger => {
+            unkept.finished(work);
+            Ok(())
+        }
     }
 }
 
@@ -54,10 +59,11 @@ pub(crate) fn turn<B: Bench, G: Gate>(
     bench: &mut B,
     gate: &mut G,
     cache: &mut Cache,
+    unkept: &mut Unkept,
     index: u32,
 ) -> Result<(), NoMemory>
-    requires { AreRight (B.benched bench.old).topologies cache.old }
-    ensures turned { IsTurned index result (B.benched bench.old) (B.benched bench.new) (G.passed gate.old) (G.passed gate.new) cache.old cache.new }
+    requires { AreSound (B.benched bench.old).topologies cache.old unkept.old.last }
+    ensures turned { IsTurned index result (B.benched bench.old) (B.benched bench.new) (G.passed gate.old) (G.passed gate.new) unkept.old.last cache.new unkept.new.last }
     ensures stays { Stays B.is_at bench.old bench.new }
 {
     let Some((at, number)) = find(bench, index) else {
@@ -67,5 +73,5 @@ pub(crate) fn turn<B: Bench, G: Gate>(
         return Ok(());
     };
     gate.before(at, number);
-    finish(alloc, bench, cache, &work, at, number)
+    finish(alloc, bench, cache, unkept, work, at, number)
 }

@@ -1,11 +1,13 @@
 //! The turns of a worker.
-ghost use Rattle.std.specs.Prelude.{◌≡◌, ◌↔◌, [], ℕ};
+ghost use Rattle.std.specs.Prelude.{◌≡◌, ◌≢◌, ◌↔◌, [], ℕ, MatchResult};
 ghost use Rattle.server_loops.specs.Sites.{Stays};
+ghost use Rattle.server_loops.specs.WorkerSteps.{IsRunning};
 ghost use Rattle.server_loops.specs.WorkerTurns.{Runs};
-ghost use Rattle.server_loops.specs.declared.working.Worked.TheVariants.{Spent as SpentAt};
+ghost use Rattle.server_loops.specs.declared.working.Worked.TheVariants.{NoMemory as WantOfMemory, Spent as SpentAt};
 
 use crate::benches::Bench;
 use crate::gates::Gate;
+use crate::unkept::Unkept;
 use crate::worker_turn::turn;
 use cost_cache::Cache;
 use dom_base::NoMemory;
@@ -19,9 +21,36 @@ pub enum Worked {
     NoMemory,
 }
 
+// Makes so many turns, or fewer where the bench is spent.
+fn make_turns<B: Bench, G: Gate>(
+    alloc: Global,
+    bench: &mut B,
+    gate: &mut G,
+    cache: &mut Cache,
+    unkept: &mut Unkept,
+    index: u32,
+    turns: u64,
+) -> Result<(), NoMemory>
+    requires new { cache.old.entries ≡ [] }
+    requires none { unkept.old.last ≡ None }
+    ensures made { MatchResult result (λ _. IsRunning index turns (B.benched bench.old) (B.benched bench.new) (G.passed gate.old) (G.passed gate.new) cache.new unkept.new.last) (λ _. Runs index turns WantOfMemory (B.benched bench.old) (B.benched bench.new) (G.passed gate.old) (G.passed gate.new) cache.new) }
+    ensures stays { Stays B.is_at bench.old bench.new }
+{
+    for _turn in 0..turns {
+        if let Some(_number) = bench.spent() {
+            return Ok(());
+        }
+        if let Err(NoMemory) = turn(alloc, bench, gate, cache, unkept, index) {
+            return Err(NoMemory);
+        }
+    }
+    Ok(())
+}
+
 /// Makes so many turns. In each it asks the bench for the ready job at the worker's place, and for
 /// the first where there is none; looks at the job; passes the gate; solves it; and finishes it. A
-/// domain's job is answered by the cache, which is new.
+/// domain's job is answered by the cache, which is new, where its key was asked for before. At the
+/// end the cache has the last job's costs.
 pub fn work<B: Bench, G: Gate>(
     alloc: Global,
     bench: &mut B,
@@ -33,15 +62,16 @@ pub fn work<B: Bench, G: Gate>(
     requires { cache.old.entries ≡ [] }
     ensures runs { Runs index turns result (B.benched bench.old) (B.benched bench.new) (G.passed gate.old) (G.passed gate.new) cache.new }
     ensures stays { Stays B.is_at bench.old bench.new }
-    ensures spent { (t : ℕ) → (result ≡ SpentAt t) ↔ ((B.benched bench.new).spent ≡ Some t) }
+    ensures spent { result ≢ WantOfMemory → (t : ℕ) → (result ≡ SpentAt t) ↔ ((B.benched bench.new).spent ≡ Some t) }
 {
-    for _turn in 0..turns {
-        if let Some(number) = bench.spent() {
-            return Worked::Spent(number);
-        }
-        if let Err(NoMemory) = turn(alloc, bench, gate, cache, index) {
-            return Worked::NoMemory;
-        }
+    let Ok(mut unkept) = Unkept::new(alloc) else {
+        return Worked::NoMemory;
+    };
+    if let Err(NoMemory) = make_turns(alloc, bench, gate, cache, &mut unkept, index, turns) {
+        return Worked::NoMemory;
+    }
+    if let Err(NoMemory) = unkept.keep(cache) {
+        return Worked::NoMemory;
     }
     match bench.spent() {
         Some(number) => Worked::Spent(number),

@@ -1,5 +1,5 @@
 //! The generations of one element.
-ghost use Rattle.std.specs.Prelude.{◌≡◌, ◌≤◌, ◌<◌, ◌+◌, ◌↔◌, ℕ, [], Some, Err, IfOk, OnOk, OnErr};
+ghost use Rattle.std.specs.Prelude.{◌≡◌, ◌≤◌, ◌<◌, ◌+◌, ◌↔◌, ℕ, [], length, Some, Err, IfOk, OnOk, OnErr};
 ghost use Rattle.std.specs.Arc.{arc_value};
 ghost use Rattle.te_links.specs.Rows.{IsTopology, IsInOrder};
 ghost use Rattle.te_generations.specs.Live.{empty_rows};
@@ -139,6 +139,14 @@ impl Generations {
         ensures rules { IsShelf self.now }
     {
         self.current.number
+    }
+
+    /// How many generations are live; takes no memory.
+    pub fn live(&self) -> usize
+        ensures many { result ≡ length self.now.older + 1 }
+        ensures rules { IsShelf self.now }
+    {
+        self.older.len() + 1
     }
 
     /// The number of a pinned generation; takes no memory.

@@ -9,3 +9,4 @@ pub mod Joining
 pub mod Composing
 pub mod Segments
 pub mod OneTable
+pub mod Capping

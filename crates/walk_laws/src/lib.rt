@@ -6,6 +6,7 @@ ghost use Rattle.walk_laws.specs.Least.{CertificateIsLeast, LeastIsCertified, Pa
 ghost use Rattle.walk_laws.specs.Composition.{WalksJoin, WalksSplit, LabelIsJoin, LabelIsJoinAt, JoinComposes, JoinEnds, JoinReports};
 ghost use Rattle.walk_laws.specs.Segments.{SegmentIsWalk, OneSegment, ShownComposes, ShownEnds, ShownReports};
 ghost use Rattle.walk_laws.specs.TableJoins.{OneTableJoin, OneTableEnd};
+ghost use Rattle.walk_laws.specs.Capped.{LabelUnderLowerCap, NoLabelUnderLowerCap, SegmentUnderLowerCap};
 
 /// A law: where the conditions of a certificate hold, each label is the least over all walks.
 pub fn certificate_is_least()
@@ -97,4 +98,16 @@ pub fn shown_reports()
 pub fn one_table_join()
     ensures join { OneTableJoin }
     ensures last { OneTableEnd }
+{}
+
+/// A law: under a lower cap a node has the label that it had where that is within the cap, and else
+/// none.
+pub fn label_under_lower_cap()
+    ensures same { LabelUnderLowerCap }
+    ensures none { NoLabelUnderLowerCap }
+{}
+
+/// A law: the chosen segment of a label under a lower cap is that under the cap.
+pub fn segment_under_lower_cap()
+    ensures { SegmentUnderLowerCap }
 {}

@@ -8,8 +8,8 @@ ghost use Rattle.std.specs.Arc.{arc_value};
 ghost use Rattle.cost_cache.specs.Entries.{IsGoodForAll};
 
 use crate::texts::{goes_to_a_thread, topology_of};
-use answers::{put_answer, put_number, put_table};
-use border_costs::{Job, Solved, seeds_of, solve};
+use answers::{put_answer, put_labels, put_number, put_table};
+use border_costs::{Job, Solved, seeds_of, solve, solve_labelled};
 use cost_cache::Cache;
 use dom_base::NoMemory;
 use line_text::{Lines, line_count};
@@ -50,11 +50,19 @@ fn put_solution(cache: &mut Cache, job: &Job, text: &mut Vec<u8>) -> Result<u64,
     Ok(reads)
 }
 
-// Whether a search of its own answers the same for a job.
-fn is_said_anew(alloc: Global, job: &Job, text: &[u8]) -> Result<bool, NoMemory> {
+// Whether a solution says the same.
+fn is_said(alloc: Global, solved: &Solved, text: &[u8]) -> Result<bool, NoMemory> {
     let mut anew = Vec::new(alloc);
-    put_answer(&solve(alloc, job)?, &mut anew)?;
+    put_answer(solved, &mut anew)?;
     Ok(anew.as_slice() == text)
+}
+
+// Puts the labels of all nodes; whether the search that gives them says the same for a job.
+fn put_labelled(alloc: Global, job: &Job, text: &mut Vec<u8>) -> Result<bool, NoMemory> {
+    let (solved, certificate) = solve_labelled(alloc, job)?;
+    let is_same = is_said(alloc, &solved, text.as_slice())?;
+    put_labels(&certificate, text)?;
+    Ok(is_same)
 }
 
 // Puts how many links a search reads for a job, whether the cache read none, and the job's border table.
@@ -67,16 +75,19 @@ fn put_reads(alloc: Global, job: &Job, reads: u64, text: &mut Vec<u8>) -> Result
     put_table(alloc, job, text)
 }
 
-// The answer to a job: its solution, which the cache and a search of its own give alike, and what
-// `put_reads` puts.
+// The answer to a job: its solution, which the cache, a search that ends early and one that gives
+// all labels give alike, these labels, and what `put_reads` puts.
 fn said(alloc: Global, cache: &mut Cache, job: &Job) -> Result<Vec<u8>, Fail>
     requires { IsGoodForAll (arc_value job.now.topology) cache.old }
     ensures { IsGoodForAll (arc_value job.now.topology) cache.new }
 {
     let mut text = Vec::new(alloc);
     let reads = put_solution(cache, job, &mut text)?;
-    if !is_said_anew(alloc, job, text.as_slice())? {
+    if !is_said(alloc, &solve(alloc, job)?, text.as_slice())? {
         return Err("something else without the cache")?;
+    }
+    if !put_labelled(alloc, job, &mut text)? {
+        return Err("something else with the labels of all nodes")?;
     }
     put_reads(alloc, job, reads, &mut text)?;
     Ok(text)

@@ -20,7 +20,6 @@ use Rattle.plant_laws.specs.Transcript.{Visit, pinned, domains}
 use Rattle.plant_laws.specs.Ends.{End, Inside, Asked, goal_of}
 use Rattle.border_costs.proofs.Composing.{rows_compose, rows_end, rows_report}
 use Rattle.plant_laws.proofs.Least.BorderJoins.{finds}
-use Rattle.plant_laws.proofs.Least.Segments.{has_label}
 use Rattle.plant_laws.proofs.Least.BestParts.{best_ends, best_goes_on}
 use Rattle.plant_laws.proofs.Least.Told.{from_path, IsTold, told_beyond}
 use Rattle.plant_laws.proofs.Least.Ways.{IsWay, end_way, over_way, on_way}
@@ -49,7 +48,7 @@ module _ (n : NetworkParts) (d : As) (k : ℕ) (item : Item Pin) (one : Visit) (
       record {
         each = λ b is.
             let row = found.each b is in
-            (row.0, end_way n w one own home b (best_ends g a are.seeds w.target b (has_label g w.query are.seeds are.certificate.labels are.certificate.are_labels) are.are_seeds.are target row.1) (tells.each b is).1);
+            (row.0, end_way n w one own home b (best_ends g a are.seeds w.target b are.are_seeds.are target row.1) (tells.each b is).1);
         every = tells.every;
       }
 
@@ -64,7 +63,7 @@ module _ (n : NetworkParts) (d : As) (k : ℕ) (item : Item Pin) (one : Visit) (
       record {
         each = λ b is.
             let row = found.each b is in
-            let part = best_goes_on g a are.seeds next told b order (has_label g w.query are.seeds are.certificate.labels are.certificate.are_labels) are.are_seeds.are target refl row.1 in
+            let part = best_goes_on g a are.seeds next told b order are.are_seeds.are target refl row.1 in
             (row.0, over_way n w one own home next told b part (tells.each b is).1);
         every = tells.every;
       }
@@ -85,7 +84,7 @@ module _ (n : NetworkParts) (d : As) (k : ℕ) (item : Item Pin) (one : Visit) (
       record {
         each = λ b is.
             let row = found.each b is in
-            let part = best_goes_on g a are.seeds next.own down b order (has_label g w.query are.seeds are.certificate.labels are.certificate.are_labels) are.are_seeds.are to_next refl row.1 in (
+            let part = best_goes_on g a are.seeds next.own down b order are.are_seeds.are to_next refl row.1 in (
               row.0,
               on_way n w one own home c codec next chain end small here at_next paths b part
                   (from_path c codec n (next ∷ chain) end w small (IsEntryFrom h one.own) paths told.each part.below.branch part.below.is_branch) (tells.each b is).1 right',

@@ -7,7 +7,7 @@ use Rattle.plant_model.specs.Types.{Addr, As, Link, Query, Seed, Label, OutLink,
 use Rattle.dom_base.specs.Admission.{weight}
 use Rattle.te_links.specs.Rows.{Rows, IsInOrder}
 use Rattle.walk_laws.specs.Walks.{Walk, cost}
-use Rattle.walk_laws.specs.Labels.{IsSegment}
+use Rattle.walk_laws.specs.Labels.{IsLabel, IsSegment}
 use Rattle.walk_laws.specs.Borders.{Beyond, LeadsTo, IsDown, IsJoin, JoinsAt, AreBorderSeeds}
 use Rattle.walk_laws.proofs.Admitted.{walk_admits}
 use Rattle.border_costs.specs.declared.job.Target.TheVariants.{Node, Next}
@@ -19,7 +19,7 @@ use Rattle.plant_model.specs.Branches.{downs}
 use Rattle.plant_laws.specs.Shown.{segment_of, IsChosenTo}
 use Rattle.border_costs.proofs.Members.{contains_none, contains_head, contains_tail, contains_cases}
 use Rattle.plant_laws.proofs.Least.BorderJoins.{one_out}
-use Rattle.plant_laws.proofs.Least.Segments.{segment_leads, HasLabel, joined_label, joined_label_at}
+use Rattle.plant_laws.proofs.Least.Segments.{segment_leads}
 use Rattle.dom_base.specs.AddrOrder.{rank}
 use Rattle.dom_base.proofs.Ranks.{same_addr as one_place}
 
@@ -132,11 +132,11 @@ pub record GoesOn (g : Rows) (q : Query) (next : As) (down : List Branch) (b : B
 abbrev pair_of : Best → Label
 pair_of b = record { cost = b.cost; exit = b.exit }
 
-pub ends_in : (g : Rows) (q : Query) (t : Addr) (seeds : List Seed) (b : Best) → ((u : Addr) → Contains g.nodes u → HasLabel g q seeds u) → seeds ≡ target_seed t ∷ [] →
+pub ends_in : (g : Rows) (q : Query) (t : Addr) (seeds : List Seed) (b : Best) → IsLabel g q seeds b.entry (Some (pair_of b)) → seeds ≡ target_seed t ∷ [] →
     JoinsAt g q t b.entry (pair_of b) → b.head ≡ None → (links : List Link) → IsSegment g q seeds b.entry (pair_of b) links → b.segment ≡ segment_of b.entry links → EndsIn g q t b
-ends_in g q t seeds b labels are pair head links segment shown =
+ends_in g q t seeds b is are pair head links segment shown =
     let admits = walk_admits g q b.entry t pair.links pair.least.feasible.walk in
-    let label = joined_label_at g q t b.entry (pair_of b) pair (subst (λ (ss : List Seed). HasLabel g q ss b.entry) are (labels b.entry admits.is_node)) in
+    let label : IsLabel g q (target_seed t ∷ []) b.entry (Some (pair_of b)) = subst (λ (ss : List Seed). IsLabel g q ss b.entry (Some (pair_of b))) are is in
     let leads = segment_leads g q seeds b.entry (pair_of b) links admits segment in
     let one : target_seed t ≡ leads.seed = elim (contains_cases (target_seed t) [] leads.seed (subst (λ (ss : List Seed). Contains ss leads.seed) are leads.is_seed)) [ inl same ↦ same | inr none ↦ absurd (contains_none leads.seed none) ] in
     let no_cost = ap (λ (s : Seed). s.cost) one in
@@ -156,13 +156,12 @@ ends_in g q t seeds b labels are pair head links segment shown =
       exit = pair.exit;
     }
 
-pub goes_on : (g : Rows) (q : Query) (next : As) (down : List Branch) (seeds : List Seed) (b : Best) → IsInOrder g → ((u : Addr) → Contains g.nodes u → HasLabel g q seeds u) →
+pub goes_on : (g : Rows) (q : Query) (next : As) (down : List Branch) (seeds : List Seed) (b : Best) → IsInOrder g → IsLabel g q seeds b.entry (Some (pair_of b)) →
     AreBorderSeeds g q next (beyond (downs down)) seeds → IsJoin g q next (beyond (downs down)) b.entry (Some (pair_of b)) →
     ((o : OutLink) × LeadsTo g q next o × (o.link.far ≡ b.exit) × (b.head ≡ Some o.link.to)) →
     (links : List Link) → IsSegment g q seeds b.entry (pair_of b) links → b.segment ≡ segment_of b.entry links → GoesOn g q next down b
-goes_on g q next down seeds b order labels are join head links segment shown =
+goes_on g q next down seeds b order label are join head links segment shown =
     let admits = walk_admits g q b.entry join.0.out.link.from join.0.row.links join.0.row.least.feasible.walk in
-    let label = joined_label g q seeds b.entry next (beyond (downs down)) are (pair_of b) join (labels b.entry admits.is_node) in
     let leads = segment_leads g q seeds b.entry (pair_of b) links admits segment in
     let found = are.each leads.seed leads.is_seed in
     let out = found.0 in
@@ -183,18 +182,18 @@ goes_on g q next down seeds b order labels are join head links segment shown =
     }
 
 -- a best row of an ask
-pub best_ends : (g : Rows) (a : Ask) (seeds : List Seed) (t : Addr) (b : Best) → ((u : Addr) → Contains g.nodes u → HasLabel g a.query seeds u) → AreSeedsTo g a.query a.down a.target seeds →
+pub best_ends : (g : Rows) (a : Ask) (seeds : List Seed) (t : Addr) (b : Best) → AreSeedsTo g a.query a.down a.target seeds →
     a.target ≡ Node t → IsBest g a seeds b.entry b → EndsIn g a.query t b
-best_ends g a seeds t b labels are target is =
-    ends_in g a.query t seeds b labels (subst (λ (x : Target). AreSeedsTo g a.query a.down x seeds) target are)
+best_ends g a seeds t b are target is =
+    ends_in g a.query t seeds b is.label (subst (λ (x : Target). AreSeedsTo g a.query a.down x seeds) target are)
     (subst (λ (x : Target). IsPairTo g a.query a.down b.entry x (Some (pair_of b))) target is.pair)
     (subst (λ (x : Target). IsHead g a.query a.down x b.exit b.head) target is.is_head) is.links is.chosen is.shown
 
-pub best_goes_on : (g : Rows) (a : Ask) (seeds : List Seed) (next : As) (down : List Branch) (b : Best) → IsInOrder g → ((u : Addr) → Contains g.nodes u → HasLabel g a.query seeds u) →
+pub best_goes_on : (g : Rows) (a : Ask) (seeds : List Seed) (next : As) (down : List Branch) (b : Best) → IsInOrder g →
     AreSeedsTo g a.query a.down a.target seeds → a.target ≡ Next next → a.down ≡ downs down → IsBest g a seeds b.entry b → GoesOn g a.query next down b
-best_goes_on g a seeds next down b order labels are target told is =
+best_goes_on g a seeds next down b order are target told is =
     let over : GoesOver g a.query next a.down b.exit b.head = subst (λ (x : Target). IsHead g a.query a.down x b.exit b.head) target is.is_head in
-    goes_on g a.query next down seeds b order labels
+    goes_on g a.query next down seeds b order is.label
     (subst (λ (ds : List Down). AreBorderSeeds g a.query next (beyond ds) seeds) told (subst (λ (x : Target). AreSeedsTo g a.query a.down x seeds) target are))
     (subst (λ (ds : List Down). IsJoin g a.query next (beyond ds) b.entry (Some (pair_of b))) told (subst (λ (x : Target). IsPairTo g a.query a.down b.entry x (Some (pair_of b))) target is.pair))
     (over.out, over.least.out, over.is_exit, over.is_head) is.links is.chosen is.shown

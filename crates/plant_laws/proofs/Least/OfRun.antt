@@ -51,6 +51,8 @@ use Rattle.plant_laws.proofs.Least.FromElement.{within_tail}
 use Rattle.plant_laws.specs.Certified.{Tells, IsServed, SolvesCertifyIn}
 use Rattle.plant_model.specs.Jobs.{entries_of, target_along}
 use Rattle.te_links.specs.Rows.{Rows}
+use Rattle.walk_laws.specs.Certificate.{Certifies}
+use Rattle.path_certificate.specs.Rows.{label_in}
 use Rattle.border_costs.specs.Solutions.{AreRows}
 use Rattle.plant_laws.proofs.WrittenForm.WhereWritten.{WrittenNet, WrittenNetIds}
 
@@ -223,7 +225,7 @@ none_answers_are c codec n net es s run written short m older d i r client repli
       none_answers c codec n (deeds_of c n es) given m older d i r client alone vector is,
     )
 
--- the certificate of a solve
+-- the rows and the certificates of a solve
 pub solves_certify : WrittenNet SolvesCertifyIn
 solves_certify c codec n net es s run written d k h x =
     let y = solved_of c codec n net es s run written d k h x in
@@ -231,6 +233,7 @@ solves_certify c codec n net es s run written d k h x =
     record {
       at = y.taken.at;
       is_open = y.taken.is_open;
+      is_pinned = y.taken.pin;
       request = y.taken.request;
       delivered = y.taken.delivered;
       id = y.taken.id;
@@ -238,7 +241,6 @@ solves_certify c codec n net es s run written d k h x =
       is_path = y.taken.wanted;
       down = x.down;
       told = subst (λ (l : List As). IsServed c n (deeds_of c n es) d y.taken.at i.wanted l x.down) y.along y.served;
-      job = ask c n d (k, x.held) x.down;
       query = refl;
       source = refl;
       entries =
@@ -247,4 +249,5 @@ solves_certify c codec n net es s run written d k h x =
       target = ap (λ (l : List As). target_along l i.wanted.target) y.along;
       below = refl;
       right = subst (λ (g : Rows). AreRows g (ask c n d (k, x.held) x.down) x.rows) y.taken.pin x.right;
+      certified = λ seeds shown is. subst (λ (g : Rows). Certifies g i.wanted.query seeds (label_in shown.labels)) y.taken.pin is.certifies;
     }

@@ -1,6 +1,6 @@
 -- A run in which a good request is served: two domains whose topologies are empty, and a client of the first that asks for a path
 -- through both. There is none.
-use Rattle.std.proofs.Common.{◌≡◌, ◌<◌, ℕ, Bool, true, false, cond, nat_lt, nat_eq, List, [], ◌∷◌, Some, None, subst, inl, inr, refl, arith, ltb-true}
+use Rattle.std.proofs.Common.{◌≡◌, ◌<◌, ℕ, Bool, true, false, cond, nat_lt, nat_eq, List, [], ◌∷◌, Some, subst, inl, inr, refl, arith, ltb-true}
 use Rattle.std.specs.Prelude.{All, Contains}
 use Rattle.std.specs.Map.{lookup}
 use Rattle.std.proofs.lemmas.List.Elements.{All-nil, All-cons}
@@ -146,7 +146,7 @@ nothing_in x has = absurd (omega (arith, has.1))
 
 -- nothing was found in the last domain
 abbrev pub rows_second : Answer
-rows_second = record { best = []; source_known = false; target_known = false; certificate = record { own = As_ 2; labels = []; path = None } }
+rows_second = record { best = []; source_known = false; target_known = false }
 
 abbrev pub held_second : Held (Item Pin)
 held_second = record {
@@ -161,18 +161,6 @@ right_second = record {
   best = refl;
   source_known = (λ is. (let clash : false ≡ true = is in cc), λ has. nothing_in (V4 1) has);
   target_known = (λ is. (let clash : false ≡ true = is in cc), λ has. nothing_in (V4 3) has);
-  certificate = record {
-    own = refl;
-    labels = [];
-    are_labels = record { same_length = refl; each = λ i n is. (let clash : None ≡ Some n = is in cc) };
-    rows = refl;
-    certifies = record {
-      at_seeds = λ s has admitted within. nothing_in s.node admitted.is_node;
-      at_links = λ l a admitted ends within. nothing_in l admitted.is_link;
-      at_nodes = λ n a is. (let clash : None ≡ Some a = is in cc);
-    };
-    path = refl;
-  };
 }
 
 pub is_held_second : lookup (nat_eq 1) (second.state.elements (As_ 2)).pending.rows ≡ Some held_second
@@ -208,7 +196,7 @@ fourth = on third (event.Carry (As_ 2) (As_ 1)) tt (happened wire two third.stat
 
 -- and tells its client
 abbrev pub rows_first : Answer
-rows_first = record { best = []; source_known = false; target_known = true; certificate = record { own = As_ 1; labels = []; path = None } }
+rows_first = record { best = []; source_known = false; target_known = true }
 
 abbrev pub held_first : Held (Item Pin)
 held_first = record {
@@ -223,18 +211,6 @@ right_first = record {
   best = inl (λ a joins. nothing_in joins.out joins.row.out.is_out, refl);
   source_known = (λ is. (let clash : false ≡ true = is in cc), λ has. nothing_in (V4 1) has);
   target_known = (λ is. tt, λ is. refl);
-  certificate = record {
-    own = refl;
-    labels = [];
-    are_labels = record { same_length = refl; each = λ i n is. (let clash : None ≡ Some n = is in cc) };
-    rows = refl;
-    certifies = record {
-      at_seeds = λ s has admitted within. nothing_in s has;
-      at_links = λ l a admitted ends within. nothing_in l admitted.is_link;
-      at_nodes = λ n a is. (let clash : None ≡ Some a = is in cc);
-    };
-    path = refl;
-  };
 }
 
 pub is_held_first : lookup (nat_eq 1) (fourth.state.elements (As_ 1)).pending.rows ≡ Some held_first

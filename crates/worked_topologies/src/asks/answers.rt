@@ -1,6 +1,7 @@
 //! The answer to an ask as lines, each behind a line end.
 use border_costs::{Job, Solved, border_table};
 use dom_base::{Addr, BorderRow, Label, NoMemory, write_addr, write_number};
+use path_certificate::Certificate;
 use std::alloc::Global;
 use vspt_tree::Best;
 
@@ -56,14 +57,19 @@ fn put_label(label: &Option<Label>, text: &mut Vec<u8>) -> Result<(), NoMemory> 
     }
 }
 
-/// The ends, the best way from each entry, and the label of each node.
+/// The ends, and the best way from each entry.
 pub(crate) fn put_answer(solved: &Solved, text: &mut Vec<u8>) -> Result<(), NoMemory> {
     put_ends(solved, text)?;
     for best in solved.best() {
         put_best(best, text)?;
     }
+    Ok(())
+}
+
+/// The label of each node.
+pub(crate) fn put_labels(certificate: &Certificate, text: &mut Vec<u8>) -> Result<(), NoMemory> {
     text.extend_from_slice(b"\nlabels")?;
-    for row in solved.certificate().labels.as_slice() {
+    for row in certificate.labels.as_slice() {
         put_label(&row.1, text)?;
     }
     Ok(())

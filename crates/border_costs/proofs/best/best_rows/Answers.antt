@@ -1,12 +1,31 @@
-use Rattle.std.proofs.Common.{◌<◌, length, take, get_or, ◌∙◌}
+use Rattle.std.proofs.Common.{◌<◌, length, take, get_or, refl, sym, ◌∙◌, subst}
 use Rattle.std.proofs.lemmas.List.{take_more}
+use Rattle.std.proofs.lemmas.List.Elements.{Contains-get_or}
 use Rattle.dom_base.specs.declared.addr.Addr.TheVariants.{V4}
 use Rattle.dom_base.specs.declared.addr.Addr.{Addr}
-use Rattle.border_costs.specs.Asks.{HasNoPair}
-use Rattle.border_costs.specs.Solutions.{IsBest}
+use Rattle.te_links.specs.Rows.{Rows}
+use Rattle.border_costs.specs.Asks.{AreSeeds, HasNoPair}
+use Rattle.border_costs.specs.Solutions.{IsBest, TellEntries}
 use Rattle.border_costs.proofs.Bests.{best_added, best_left}
 use Rattle.border_costs.proofs.best.best_rows.Goals as goal
 use Rattle.border_costs.proofs.best.best_rows.Goals.{in-Some+in_ok-push, in_default}
+
+pub best_of-requires : goal.best_of-requires
+best_of-requires g c κs =
+    let ask = c.args.ask.now in
+    let seeds = c.args.seeds.now in
+    let same = sym c.loop-entry.invariant.same in
+    let none : Addr = V4 0 in
+    let below : c.loop-entry.entry-index < length ask.entries = rw c.as_slice-entry-items.ensures at c.loop-entry-test.true in (
+      (refl, tt),
+      (
+        subst (λ (h : Rows). AreSeeds h ask seeds) same c.requires.seeds,
+        (
+          subst (λ (h : Rows). TellEntries h ask seeds c.args.found.now) same c.requires.labels,
+          rw c.as_slice-entry-items.ensures (Contains-get_or ask.entries c.loop-entry.entry-index none below),
+        ),
+      ),
+    )
 
 pub loop-entry-preserved : goal.loop-entry-preserved
 loop-entry-preserved g c =

@@ -42,11 +42,11 @@ loop-place-preserved g c =
     let r = spreads c.args.labels.now after inv.n o in
     record {
       n = r.0;
-      rests = r.1.0;
-      few = omega (arith, r.1.1, inv.few);
+      rests = r.1;
+      few = omega (arith, r.3, inv.few);
       same = c.spread_node.ensures.same ∙ inv.same;
       long = c.spread_node.ensures.labels ∙ inv.long;
-      as_long = r.1.0.front.as_long ∙ (c.spread_node.ensures.labels ∙ inv.long);
+      as_long = r.1.front.as_long ∙ (c.spread_node.ensures.labels ∙ inv.long);
       places = (let same : length after ≡ length c.loop-place.done = simp length-set in same ∙ inv.places);
     }
 

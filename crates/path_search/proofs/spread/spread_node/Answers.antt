@@ -86,13 +86,9 @@ returns-clause-spreads g c =
     let past : length places ≤ c.loop-k.k = omega (arith, c.loop-k-test.false, c.len-k-end.ensures) in
     let here : SpreadsNode rows c.args.query.now c.args.place c.args.labels.now c.loop-k.labels c.args.waiting.now c.loop-k.waiting (g.G.Links.reads c.args.links.now) (g.G.Links.reads c.read_into-arrivals.new.self) =
     λ start done n o.
-    let r = c.loop-k.invariant.way start done n o in (
-      r.0,
-      (
-        spread_last rows c.args.query.now start c.loop-k.labels c.loop-k.waiting done c.args.place places c.loop-k.k r.0 are.places past r.1.0,
-        omega (arith, r.1.1, past, read.counted),
-      ),
-    ) in
+    let r = c.loop-k.invariant.way start done n o in
+    let last = spread_last rows c.args.query.now start c.loop-k.labels c.loop-k.waiting done c.args.place places c.loop-k.k r.0 are.places past r.1.0 in
+    (r.0, last.0, last.1, omega (arith, r.1.1, past, read.counted)) in
     subst
     (λ (h : Rows). SpreadsNode h c.args.query.now c.args.place c.args.labels.now c.loop-k.labels c.args.waiting.now c.loop-k.waiting (g.G.Links.reads c.args.links.now) (g.G.Links.reads c.read_into-arrivals.new.self))
     read.same here

@@ -1,4 +1,5 @@
 use Rattle.std.proofs.Common.{IfOk, subst}
+use Rattle.border_costs.specs.declared.answer.LabelledAnswer.{LabelledAnswer}
 use Rattle.plant_network.specs.plant_model.declared.event.Event.{Event}
 use Rattle.plant_network.specs.Topologies.{whole}
 use Rattle.plant_play.specs.Making.{Makes}
@@ -19,5 +20,6 @@ returns-clause-makes c =
 
 pub returns-clause-labels : goal.returns-clause-labels
 returns-clause-labels c =
+    let told : LabelledAnswer = record { rows = c.in_ok-solved.solved.rows; certificate = c.in_ok-solved.certificate } in
     always c.committed.result
-    (labels_told c.args.line c.args.modes.certify c.args.job.now c.in_ok-solved.solved.rows c.args.labels.now c.write_labels_if.new.into c.in_ok-solved.ensures.rows c.in_ok-write_labels_if.ensures)
+    (labels_told c.args.line c.args.modes.certify c.args.job.now told c.args.labels.now c.write_labels_if.new.into c.in_ok-solved.ensures.rows c.in_ok-write_labels_if.ensures)

@@ -1,35 +1,32 @@
-use Rattle.std.proofs.Common.{◌≡◌, ◌∙◌, Ok, Err, None, sym}
-use Rattle.server_loops.specs.WorkerSteps.{IsTurned}
-use Rattle.server_loops.proofs.Running.{set_out, one_more, broken}
+use Rattle.std.proofs.Common.{◌∙◌, sym}
+use Rattle.server_loops.specs.WorkerSteps.{IsRunning}
+use Rattle.server_loops.proofs.Righting.{can_keep}
+use Rattle.server_loops.proofs.Running.{spent_run, unbegun_run, unkept_run, whole}
 use Rattle.server_loops.proofs.working.work.Goals as goal
 
-pub returns-in-Err-clause-runs : goal.returns-in-Err-clause-runs
-returns-in-Err-clause-runs g c =
-    let old = g.B.Bench.benched c.args.bench.now in
-    let mid = g.B.Bench.benched c.loop-turn.bench in
-    let new = g.B.Bench.benched c.turn.new.bench in
-    let passed = g.G.Gate.passed c.args.gate.now in
-    let passed_mid = g.G.Gate.passed c.loop-turn.gate in
-    let passed_after = g.G.Gate.passed c.turn.new.gate in
-    let live : mid.spent ≡ None = sym c.spent.ensures ∙ c.in_default.is in
-    let t : IsTurned c.args.index (Err c.in-Err.field-0) mid new passed_mid passed_after c.loop-turn.cache c.turn.new.cache = rw c.in-Err.is at c.turn.ensures.turned in
-    broken c.args.index c.loop-turn._turn old mid new passed passed_mid passed_after c.loop-turn.cache c.turn.new.cache c.loop-turn.invariant.running c.args.turns c.in-Err.field-0 live
-    c.loop-turn-test.true t
+pub returns-in_default-clause-runs : goal.returns-in_default-clause-runs
+returns-in_default-clause-runs g c = unbegun_run c.args.index c.args.turns (g.B.Bench.benched c.args.bench.now) (g.G.Gate.passed c.args.gate.now) c.args.cache.now
 
-pub loop-turn-preserved : goal.loop-turn-preserved
-loop-turn-preserved g c =
+pub keep-requires : goal.keep-requires
+keep-requires g c =
     let old = g.B.Bench.benched c.args.bench.now in
-    let mid = g.B.Bench.benched c.loop-turn.bench in
-    let new = g.B.Bench.benched c.turn.new.bench in
-    let passed = g.G.Gate.passed c.args.gate.now in
-    let passed_mid = g.G.Gate.passed c.loop-turn.gate in
-    let passed_after = g.G.Gate.passed c.turn.new.gate in
-    let live : mid.spent ≡ None = sym c.spent.ensures ∙ c.in_default.is in
-    let t : IsTurned c.args.index (Ok tt) mid new passed_mid passed_after c.loop-turn.cache c.turn.new.cache = rw c.in_default-turn.is at c.turn.ensures.turned in
-    record {
-      running = one_more c.args.index c.loop-turn._turn old mid new passed passed_mid passed_after c.loop-turn.cache c.turn.new.cache c.loop-turn.invariant.running live t;
-      stays = λ site is. c.turn.ensures.stays site (c.loop-turn.invariant.stays site is);
-    }
+    let new = g.B.Bench.benched c.make_turns.new.bench in
+    let cache = c.make_turns.new.cache in
+    let last = c.make_turns.new.unkept.last in
+    let r : IsRunning c.args.index c.args.turns old new (g.G.Gate.passed c.args.gate.now) (g.G.Gate.passed c.make_turns.new.gate) cache last = c.in_default-make_turns.ensures.made in
+    record { can = can_keep new cache last r.sound }
 
-pub loop-turn-init : goal.loop-turn-init
-loop-turn-init g c = record { running = set_out c.args.index (g.B.Bench.benched c.args.bench.now) (g.G.Gate.passed c.args.gate.now) c.args.cache.now c.requires; stays = λ site is. is }
+pub returns-in-Err-keep-clause-runs : goal.returns-in-Err-keep-clause-runs
+returns-in-Err-keep-clause-runs g c =
+    unkept_run c.args.index c.args.turns (g.B.Bench.benched c.args.bench.now) (g.B.Bench.benched c.make_turns.new.bench) (g.G.Gate.passed c.args.gate.now) (g.G.Gate.passed c.make_turns.new.gate)
+    c.make_turns.new.cache c.keep.new.cache c.make_turns.new.unkept.last c.in_default-make_turns.ensures.made
+
+pub returns-in-Some-clause-runs : goal.returns-in-Some-clause-runs
+returns-in-Some-clause-runs g c =
+    spent_run c.args.index c.args.turns (g.B.Bench.benched c.args.bench.now) (g.B.Bench.benched c.make_turns.new.bench) (g.G.Gate.passed c.args.gate.now) (g.G.Gate.passed c.make_turns.new.gate)
+    c.make_turns.new.cache c.keep.new.cache c.make_turns.new.unkept.last c.in_default-make_turns.ensures.made c.in-Some.number (sym c.spent.ensures ∙ c.in-Some.is) c.in_default-keep.ensures.has
+
+pub returns-clause-runs : goal.returns-clause-runs
+returns-clause-runs g c =
+    whole c.args.index c.args.turns (g.B.Bench.benched c.args.bench.now) (g.B.Bench.benched c.make_turns.new.bench) (g.G.Gate.passed c.args.gate.now) (g.G.Gate.passed c.make_turns.new.gate)
+    c.make_turns.new.cache c.keep.new.cache c.make_turns.new.unkept.last c.in_default-make_turns.ensures.made (sym c.spent.ensures ∙ c.in-None.is) c.in_default-keep.ensures.has

@@ -1,0 +1,2 @@
+-- What the clock of a server counts.
+pub mod Awake
